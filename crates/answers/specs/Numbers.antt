@@ -1,0 +1,54 @@
+-- The numbers of the refusals (01, "What can come back"): a name for each row of the table. Assumes nothing.
+use Prim.Native.Nat.{ℕ}
+
+-- "card under 512 bytes"
+abbrev pub Short : ℕ
+Short = 1
+
+-- "block's a or b differs"
+abbrev pub Check : ℕ
+Check = 2
+
+-- "block's index field differs"
+abbrev pub Index : ℕ
+Index = 3
+
+-- "form not 1"
+abbrev pub Form : ℕ
+Form = 4
+
+-- "kind not 1 or 2"
+abbrev pub Kind : ℕ
+Kind = 5
+
+-- "l outside 2–12"
+abbrev pub Length : ℕ
+Length = 6
+
+-- "m outside 1–504"
+abbrev pub Count : ℕ
+Count = 7
+
+-- "a byte that must be zero isn't"
+abbrev pub Spare : ℕ
+Spare = 8
+
+-- "bytes not 512 × (1 + ceil(m/63))"
+abbrev pub Size : ℕ
+Size = 9
+
+-- "value 4^l or more"
+abbrev pub Word : ℕ
+Word = 10
+
+-- "place rule or width broken, or place above m−1"
+abbrev pub Places : ℕ
+Places = 11
+
+-- "lent output too short"
+abbrev pub Room : ℕ
+Room = 12
+
+-- "no such block or entry"
+abbrev pub Absent : ℕ
+Absent = 14

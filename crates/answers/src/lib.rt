@@ -1,0 +1,39 @@
+// What an operation that tests its input answers with, and the numbers of the refusals.
+
+// A refusal: which rule is broken, and where.
+pub struct Refusal {
+    pub number: usize,
+    pub place: usize,
+}
+
+// Whether every test held; else the refusal of the first that failed.
+pub enum Held {
+    Holds,
+    Refused(Refusal),
+}
+
+pub const SHORT: usize = 1;
+
+pub const CHECK: usize = 2;
+
+pub const INDEX: usize = 3;
+
+pub const FORM: usize = 4;
+
+pub const KIND: usize = 5;
+
+pub const LENGTH: usize = 6;
+
+pub const COUNT: usize = 7;
+
+pub const SPARE: usize = 8;
+
+pub const SIZE: usize = 9;
+
+pub const WORD: usize = 10;
+
+pub const PLACES: usize = 11;
+
+pub const ROOM: usize = 12;
+
+pub const ABSENT: usize = 14;

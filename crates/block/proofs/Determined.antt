@@ -1,0 +1,23 @@
+-- Each public contract determines the outcome: two results that both meet it at the same input are equal. `Post` is the contract as it
+-- is read from the source. Assumes nothing.
+use mathlib.Core.Path.{_≡_, sym, _∙_}
+use contract.Lifetimes.{Lfts}
+use denote.Ref.{now}
+use denote.Triple.Clauses.{AtExit}
+use borrow.Fn.Kinds.{Dens, resT, endedOf}
+use Rattle.answers.proofs.Laws.{held-one}
+use Rattle.block.proofs.companion.Kinds as companion
+use Rattle.block.proofs.companion.Reads as companion-reads
+use Rattle.block.proofs.fetch.Kinds as fetch
+use Rattle.block.proofs.fetch.Reads as fetch-reads
+
+module _ (κs : Lfts 1) where
+  -- the companion's answer
+  pub companion-one : (a : Dens κs companion.ps) (r r′ : resT companion.r κs .Denot) (e e′ : AtExit (endedOf 1 companion.ps companion.r) κs)
+      → companion-reads.Post κs a r e → companion-reads.Post κs a r′ e′ → r ≡ r′
+  companion-one a r r′ e e′ p q = held-one r r′ (p ∙ sym q)
+
+  -- the fetched part: its bytes and its place
+  pub fetch-one : (a : Dens κs fetch.ps) (r r′ : resT fetch.r κs .Denot) (e e′ : AtExit (endedOf 1 fetch.ps fetch.r) κs)
+      → fetch-reads.Post κs a r e → fetch-reads.Post κs a r′ e′ → (now r ≡ now r′) × (r .ptr ≡ r′ .ptr)
+  fetch-one a r r′ e e′ p q = (p .0 ∙ sym (q .0), p .1 ∙ sym (q .1))

@@ -1,0 +1,155 @@
+-- The laws of the blocks that this crate's proofs and the crates above cite. No contract cites this file. Assumes nothing.
+use mathlib.Core.Path.{_≡_, refl, sym, ap, _∙_}
+use mathlib.Core.Logic.{_↔_}
+use mathlib.Core.Bool.{Bool, true, false, cond, _&&_}
+use mathlib.Core.List.{List, [], _∷_, _++_}
+use Prim.Native.Nat.{ℕ, _+_, _*_, _-_, _≤_, _<_}
+use native.Mathlib.Nat.{add-sub-cancel-left}
+use native.Mathlib.Omega.{arith}
+use lib.ListN.{length, getD, take, drop, length-take, length-drop}
+use lib.Seq.{getD-take, getD-drop}
+use lib.Dec.{leb, eqb}
+use borrow.Author.Tests.{le-leb, lt-leb, leb-true, eq-eqb, ne-eqb}
+use Rattle.answers.specs.declared.Held.{Held}
+use Rattle.answers.specs.Numbers.{Check, Index, Absent}
+use Rattle.answers.specs.Answer.{Answer, given, refused, Sound, sound, Test, test, first, saysHeld}
+use Rattle.answers.proofs.Laws.{first-pass, first-fail, first-passed, first-holds, first-stops, first-given-any, first-refused-any}
+use Rattle.block.specs.declared.Sums.{Sums}
+use Rattle.block.specs.Bytes.{twoAt, fourAt}
+use Rattle.block.specs.Check.{sumsOf, checks, checkAt}
+use Rattle.block.specs.Block.{blockBytes, blockAt, indexOf, blockTests, fetchTests, partOf, fetchOf, placeOf, startOf, offsetOf}
+
+-- ---- the check
+
+-- by its sums: a first, and then b
+module _ (b : List ℕ) (s : Sums) (e : s ≡ sumsOf (take checkAt b)) where
+  pub checks-not : (s .a ≡ getD b checkAt 0 → ⊥) → false ≡ checks b
+  unfolding checks
+  checks-not h = simp (← e, ne-eqb _ _ h)
+
+  pub checks-when : s .a ≡ getD b checkAt 0 → eqb (s .b) (getD b (checkAt + 1) 0) ≡ checks b
+  unfolding checks
+  checks-when h = simp (← e, eq-eqb _ _ h)
+
+-- ---- a block
+
+module _ (b : List ℕ) (k : ℕ) where
+  pub block-unchecked : checks b ≡ false → first (blockTests b k) sound ≡ refused Check k
+  unfolding blockTests
+  block-unchecked h = first-fail _ _ _ _ _ h
+
+  pub block-elsewhere : checks b ≡ true → (indexOf b ≡ k → ⊥) → first (blockTests b k) sound ≡ refused Index k
+  unfolding blockTests
+  block-elsewhere h i = first-pass _ _ _ _ _ h ∙ first-fail _ _ _ _ _ (ne-eqb _ _ i)
+
+  pub block-sound : checks b ≡ true → indexOf b ≡ k → first (blockTests b k) sound ≡ given sound
+  unfolding blockTests first
+  block-sound h i = rw (h, eq-eqb (indexOf b) k i)
+
+-- ---- a block of a card
+
+module _ (card : List ℕ) (k : ℕ) where
+  -- a block that is not all there
+  pub absent : length card < blockBytes * k + blockBytes → first (fetchTests card k) sound ≡ refused Absent 0
+  unfolding fetchTests
+  absent h = first-fail _ _ _ _ _ (lt-leb _ _ h)
+
+  -- of one that is, the answer is the block's own
+  pub present : {A : Type 0} (a : A) → blockBytes * k + blockBytes ≤ length card → first (fetchTests card k) a ≡ first (blockTests (blockAt card k) k) a
+  unfolding fetchTests
+  present a h = first-pass _ _ _ _ _ (le-leb _ _ h)
+
+  -- a block that holds is all there
+  pub holds-there : {A : Type 0} (a b : A) → first (fetchTests card k) a ≡ given b → blockBytes * k + blockBytes ≤ length card
+  unfolding fetchTests
+  holds-there a b e = leb-true _ _ (first-passed _ _ _ _ _ _ e .0)
+
+  -- a block that is all there has 512 bytes
+  pub block-length : blockBytes * k + blockBytes ≤ length card → length (blockAt card k) ≡ blockBytes
+  unfolding blockAt
+  block-length h = simp (length-take, length-drop) (omega arith)
+
+  -- a byte of a block is a byte of the card
+  pub block-byte : (i : ℕ) → i < blockBytes → getD (blockAt card k) i 0 ≡ getD card (blockBytes * k + i) 0
+  unfolding blockAt
+  block-byte i h = rw (getD-take, getD-drop)
+
+  -- the part from 512 k to 512 k + 512, as the code takes it
+  pub part-is : take (blockBytes * k + blockBytes - blockBytes * k) (drop (blockBytes * k) card) ≡ blockAt card k
+  unfolding blockAt
+  part-is = rw (add-sub-cancel-left (blockBytes * k) blockBytes)
+
+  -- ---- what a fetch hands back
+
+  -- the block where the companion's tests hold
+  pub fetch-holds : first (fetchTests card k) sound ≡ given sound → fetchOf card k ≡ blockAt card k
+  unfolding fetchOf
+  fetch-holds e = ap partOf (first-given-any (fetchTests card k) sound sound (blockAt card k) e)
+
+  -- which is 512 bytes long
+  pub fetch-length : first (fetchTests card k) sound ≡ given sound → length (fetchOf card k) ≡ blockBytes
+  fetch-length e = ap length (fetch-holds e) ∙ block-length (holds-there sound sound e)
+
+  -- nothing where it is refused
+  pub fetch-refused : {n p : ℕ} → first (fetchTests card k) sound ≡ refused n p → fetchOf card k ≡ []
+  unfolding fetchOf
+  fetch-refused e = ap partOf (first-refused-any (fetchTests card k) sound (blockAt card k) e)
+
+  -- by the part's length
+  pub fetch-none : length (fetchOf card k) ≡ 0 → first (fetchTests card k) sound ≡ given sound → ⊥
+  fetch-none z e = omega (arith, fetch-length e)
+
+  pub fetch-some : (length (fetchOf card k) ≡ 0 → ⊥) → first (fetchTests card k) sound ≡ given sound
+  fetch-some s = go (first (fetchTests card k) sound) refl
+    where
+      go : (r : Answer Sound) → first (fetchTests card k) sound ≡ r → first (fetchTests card k) sound ≡ given sound
+      go (given sound) q = q
+      go (refused n p) q = absurd (s (ap length (fetch-refused q)))
+
+  -- where the part stands: the block's own place, or the card's where there is none
+  pub place-holds : (p : ℕ × ℕ) → first (fetchTests card k) sound ≡ given sound → placeOf p card k ≡ startOf p (blockBytes * k)
+  unfolding placeOf
+  place-holds p e = ap (λ r. startOf p (offsetOf r)) (first-given-any (fetchTests card k) sound sound (blockBytes * k) e)
+
+  pub place-refused : (p : ℕ × ℕ) {n q : ℕ} → first (fetchTests card k) sound ≡ refused n q → placeOf p card k ≡ p
+  unfolding placeOf
+  place-refused p e =
+      let z : 0 + p .1 ≡ p .1 = omega arith in
+      ap (λ r. startOf p (offsetOf r)) (first-refused-any (fetchTests card k) sound (blockBytes * k) e) ∙ ap (λ (at : ℕ). (p .0, at)) z
+
+  -- "the part is empty exactly when the companion refuses"
+  pub empty-refused : (fetchOf card k ≡ []) ↔ (first (fetchTests card k) sound ≡ given sound → ⊥)
+  empty-refused = (λ e. fetch-none (ap length e), λ h. go h (first (fetchTests card k) sound) refl)
+    where
+      go : (first (fetchTests card k) sound ≡ given sound → ⊥) → (r : Answer Sound) → first (fetchTests card k) sound ≡ r → fetchOf card k ≡ []
+      go h (given sound) q = absurd (h q)
+      go h (refused n p) q = fetch-refused q
+
+  -- ---- a part that was fetched, by its length
+
+  module _ {part : List ℕ} (e : part ≡ fetchOf card k) where
+    pub part-none : length part ≡ 0 → length (fetchOf card k) ≡ 0
+    part-none z = ap length (sym e) ∙ z
+
+    module _ (some : length part ≡ 0 → ⊥) where
+      pub part-some : length (fetchOf card k) ≡ 0 → ⊥
+      part-some z = some (ap length e ∙ z)
+
+      pub part-block : part ≡ blockAt card k
+      part-block = e ∙ fetch-holds (fetch-some part-some)
+
+      pub part-length : length part ≡ blockBytes
+      part-length = ap length e ∙ fetch-length (fetch-some part-some)
+
+  -- ---- the tests of a block that is all there, before other tests `more`
+
+  module _ (there : blockBytes * k + blockBytes ≤ length card) (more : List Test) where
+    -- where the part is empty the companion's answer is the answer
+    pub unfetched : length (fetchOf card k) ≡ 0 → first (fetchTests card k) sound ≡ first (blockTests (blockAt card k) k ++ more) sound
+    unfetched z =
+        present sound there
+        ∙ sym (first-stops more (blockTests (blockAt card k) k) (λ e. fetch-none z (present sound there ∙ e)))
+
+    -- where it is not the later tests answer
+    pub fetched : {A : Type 0} (a : A) → (length (fetchOf card k) ≡ 0 → ⊥) → first (blockTests (blockAt card k) k ++ more) a ≡ first more a
+    fetched a s = first-holds more a (blockTests (blockAt card k) k) (sym (present sound there) ∙ fetch-some s)

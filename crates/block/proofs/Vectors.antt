@@ -1,0 +1,41 @@
+-- The scope's worked examples of the check, from the definitions. Assumes nothing.
+use mathlib.Core.Path.{_≡_, refl}
+use mathlib.Core.List.{List, [], _∷_, _++_}
+use Prim.Native.Nat.{ℕ}
+use lib.ListN.{replicate}
+use Rattle.answers.specs.Numbers.{Check, Index, Absent}
+use Rattle.answers.specs.Answer.{given, refused, sound, first}
+use Rattle.block.specs.Bytes.{twoAt}
+use Rattle.block.specs.Check.{sumsOf, checks}
+use Rattle.block.specs.Block.{blockAt, indexOf, blockTests, fetchTests}
+
+-- "A block of zeros but for byte 0 = 1 has a = 1, b = 0"
+pub one-then-zeros : sumsOf (1 ∷ replicate 509 0) ≡ record { a = 1; b = 0 }
+unfolding sumsOf
+one-then-zeros = refl
+
+-- "A head for a span card with l = 3, m = 8 has a = 14, b = 215"
+pub span-head : sumsOf (1 ∷ 2 ∷ 3 ∷ 0 ∷ 8 ∷ replicate 505 0) ≡ record { a = 14; b = 215 }
+unfolding sumsOf
+span-head = refl
+
+-- that head with its check bytes, and what a fetch from it answers
+unfoldable pub head : List ℕ
+head = 1 ∷ 2 ∷ 3 ∷ 0 ∷ 8 ∷ replicate 505 0 ++ (14 ∷ 215 ∷ [])
+
+pub head-holds : first (fetchTests head 0) sound ≡ given sound
+unfolding head first fetchTests blockTests blockAt checks sumsOf indexOf twoAt
+head-holds = refl
+
+pub head-not-second : first (blockTests head 1) sound ≡ refused Index 1
+unfolding head first fetchTests blockTests blockAt checks sumsOf indexOf twoAt
+head-not-second = refl
+
+pub no-second : first (fetchTests head 1) sound ≡ refused Absent 0
+unfolding head first fetchTests blockTests blockAt checks sumsOf indexOf twoAt
+no-second = refl
+
+-- "check" comes before "index": a block of zeros but for byte 0 = 1 fails both as block 1
+pub check-first : first (blockTests (1 ∷ replicate 511 0) 1) sound ≡ refused Check 1
+unfolding first fetchTests blockTests blockAt checks sumsOf indexOf twoAt
+check-first = refl

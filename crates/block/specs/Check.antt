@@ -1,0 +1,26 @@
+-- The check of a block (01, "The card, block by block"): "byte 510 holds a, byte 511 holds b".
+--   stepOf s x    == the sums s with one byte x more
+--   sumsOf xs     == the sums of the bytes xs
+--   checks b      == whether the check bytes of the block b are the sums of the bytes before them
+-- Assumes nothing.
+use Prim.Native.Nat.{ℕ, _+_, _%_}
+use mathlib.Core.Bool.{Bool, _&&_}
+use mathlib.Core.List.{List, foldl}
+use lib.ListN.{getD, take}
+use lib.Dec.{eqb}
+use Rattle.block.specs.declared.Sums.{Sums}
+
+-- "a becomes (a + byte) mod 255, then b becomes (b + a) mod 255"
+abbrev pub stepOf : Sums → ℕ → Sums
+stepOf s x = record { a = (s .a + x) % 255; b = (s .b + (s .a + x) % 255) % 255 }
+
+-- "Start with a = b = 0; for each of bytes … in order"
+unfoldable pub sumsOf : List ℕ → Sums
+sumsOf xs = foldl stepOf (record { a = 0; b = 0 }) xs
+
+-- "bytes 0–509", and after them a and b
+abbrev pub checkAt : ℕ
+checkAt = 510
+
+unfoldable pub checks : List ℕ → Bool
+checks b = eqb (sumsOf (take checkAt b) .a) (getD b checkAt 0) && eqb (sumsOf (take checkAt b) .b) (getD b (checkAt + 1) 0)

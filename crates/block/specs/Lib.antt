@@ -1,0 +1,4 @@
+-- `Bytes` is for numbers in bytes, `Check` for a block's check, `Block` for what holds and what is fetched.
+pub mod Bytes
+pub mod Check
+pub mod Block

@@ -1,0 +1,143 @@
+// The blocks of a card: fetched where their check and their index hold. This layer knows nothing of entries.
+// No function that the scope names has a `requires`: `fetch` and `companion` test their own input.
+ghost use mathlib.Core.Path.{_≡_};
+ghost use Prim.Native.Nat.{_+_, _*_, _≤_, _<_};
+ghost use lib.ListN.{length};
+ghost use Rattle.answers.specs.Answer.{first, sound, saysHeld};
+ghost use Rattle.block.specs.Bytes.{twoAt, fourAt};
+ghost use Rattle.block.specs.Check.{stepOf, sumsOf, checks};
+ghost use Rattle.block.specs.Block.{blockBytes, blockAt, indexOf, blockTests, fetchTests, partOf, fetchOf, placeOf, startOf};
+use answers::Held;
+use answers::Refusal;
+
+// The bytes of a block.
+pub const BLOCK: usize = 512;
+// Where a block's index stands, after the bytes that are the card's own.
+pub const INDEX_AT: usize = 508;
+// Where a block's check stands, after the bytes that it is of.
+const CHECK_AT: usize = 510;
+
+// What the check bytes hold.
+pub struct Sums {
+    pub a: u8,
+    pub b: u8,
+}
+
+// The number in two bytes, the low one first.
+fn two(b0: u8, b1: u8) -> u16
+    ensures { λ r. ⌜ r ≡ b0 + 256 * b1 ⌝ }
+{
+    b0 as u16 + 256 * (b1 as u16)
+}
+
+// The number in the two bytes of a part from `at` on.
+pub fn two_at(part: &[u8], at: usize) -> u16
+    requires { ⌜ at + 2 ≤ length (now part) ⌝ }
+    ensures { λ r. ⌜ r ≡ twoAt (now (part .entry)) at ⌝ }
+{
+    two(part[at], part[at + 1])
+}
+
+// The number in the four bytes of a part from `at` on.
+pub fn four_at(part: &[u8], at: usize) -> u32
+    requires { ⌜ at + 4 ≤ length (now part) ⌝ }
+    ensures { λ r. ⌜ r ≡ fourAt (now (part .entry)) at ⌝ }
+{
+    let low = two_at(part, at);
+    let high = two_at(part, at + 2);
+    low as u32 + 65536 * (high as u32)
+}
+
+// The sums with one byte more.
+fn step(s: Sums, x: u8) -> Sums
+    ensures { λ r. ⌜ r ≡ stepOf s x ⌝ }
+{
+    let a = (s.a as u32 + x as u32) % 255;
+    let b = (s.b as u32 + a) % 255;
+    Sums {
+        a: a as u8,
+        b: b as u8,
+    }
+}
+
+// The sums of all bytes of a slice.
+fn sum_up(bytes: &[u8]) -> Sums
+    ensures { λ r. ⌜ r ≡ sumsOf (now (bytes .entry)) ⌝ }
+{
+    let mut s = Sums { a: 0, b: 0 };
+    let mut i = 0;
+    while i < bytes.len() {
+        s = step(s, bytes[i]);
+        i += 1;
+    }
+    s
+}
+
+// Whether the check bytes of a block hold.
+fn check_holds(block: &[u8]) -> bool
+    requires { ⌜ length (now block) ≡ blockBytes ⌝ }
+    ensures { λ r. ⌜ r ≡ checks (now (block .entry)) ⌝ }
+{
+    let s = sum_up(&block[..CHECK_AT]);
+    if s.a != block[CHECK_AT] {
+        return false;
+    }
+    s.b == block[CHECK_AT + 1]
+}
+
+// Whether a block holds as block k: its check before its index.
+fn block_holds(block: &[u8], k: usize) -> Held
+    requires { ⌜ length (now block) ≡ blockBytes ⌝ }
+    ensures { λ r. ⌜ saysHeld r ≡ first (blockTests (now (block .entry)) k) sound ⌝ }
+{
+    if check_holds(block) {
+        if two_at(block, INDEX_AT) as usize == k {
+            Held::Holds
+        } else {
+            Held::Refused(Refusal {
+                number: answers::INDEX,
+                place: k,
+            })
+        }
+    } else {
+        Held::Refused(Refusal {
+            number: answers::CHECK,
+            place: k,
+        })
+    }
+}
+
+// The bytes of block k, which are all there, whether it holds or not.
+pub fn part(card: &[u8], k: usize) -> &[u8]
+    requires { ⌜ blockBytes * k + blockBytes ≤ length (now card) ⌝ }
+    ensures bytes { λ r. ⌜ now r ≡ blockAt (now (card .entry)) k ⌝ }
+    ensures place { λ r. ⌜ r .ptr ≡ startOf (card .entry .ptr) (blockBytes * k) ⌝ }
+{
+    let at = BLOCK * k;
+    let end = at + BLOCK;
+    &card[at..end]
+}
+
+// Whether the fetch of block k holds; else the refusal: its bytes are not all there, its check, or its index.
+pub fn companion(card: &[u8], k: usize) -> Held
+    ensures { λ r. ⌜ saysHeld r ≡ first (fetchTests (now (card .entry)) k) sound ⌝ }
+{
+    if card.len() / BLOCK <= k {
+        return Held::Refused(Refusal {
+            number: answers::ABSENT,
+            place: 0,
+        });
+    }
+    block_holds(part(card, k), k)
+}
+
+// The 512 bytes of block k themselves, or an empty part where the companion refuses.
+pub fn fetch(card: &[u8], k: usize) -> &[u8]
+    ensures bytes { λ r. ⌜ now r ≡ fetchOf (now (card .entry)) k ⌝ }
+    ensures place { λ r. ⌜ r .ptr ≡ placeOf (card .entry .ptr) (now (card .entry)) k ⌝ }
+{
+    match companion(card, k) {
+        Held::Holds => part(card, k),
+        Held::Refused(_) => &card[..0],
+    }
+}

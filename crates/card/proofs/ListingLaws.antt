@@ -1,0 +1,124 @@
+-- The laws of admitting into lent lists that this crate's proofs cite. No contract cites this file. Assumes nothing.
+use mathlib.Core.Path.{_≡_, refl, sym, ap, _∙_}
+use mathlib.Core.Bool.{Bool, true, false, _&&_, and-false}
+use mathlib.Core.List.{List, [], _∷_, _++_}
+use Prim.Native.Nat.{ℕ, suc, _+_, _≤_, _<_}
+use native.Mathlib.Numerals.{add-one}
+use native.Mathlib.Omega.{arith}
+use lib.ListN.{length, drop, set, length-append, length-drop}
+use lib.Seq.{drop-cons, set-at, append-snoc}
+use lib.Dec.{leb}
+use borrow.Author.Tests.{le-leb, lt-leb, leb-true}
+use Rattle.answers.specs.declared.Refusal.{Refusal}
+use Rattle.answers.specs.Numbers.{Room}
+use Rattle.answers.specs.Answer.{given, refused, sound, first}
+use Rattle.answers.specs.Row.{row}
+use Rattle.answers.proofs.Laws.{first-fail, first-last, first-holds, first-refused, first-refused-any}
+use Rattle.answers.proofs.RowLaws.{length-row, row-more}
+use Rattle.answers.proofs.Tests.{both}
+use Rattle.entries.specs.declared.Format.{Format}
+use Rattle.entries.specs.declared.Slot.{Slot}
+use Rattle.card.specs.declared.Admitted.{Admitted}
+use Rattle.card.specs.declared.Admitted.the-variants.{Card, Refused}
+use Rattle.card.specs.Layout.{slotOf}
+use Rattle.card.specs.Reading.{readingOrder}
+use Rattle.card.specs.Fetching.{toldBy, admission, saysAdmitted}
+use Rattle.card.specs.Listing.{hasRoom, listTests, listing, filled, listed, Listed}
+use Rattle.card.proofs.FetchingLaws.{Admits}
+
+-- ---- a list that is filled from the front
+
+-- one more of a row, over a list
+row-set : (f : ℕ → ℕ) (before : List ℕ) (e : ℕ) → e < length before
+    → set (row f 0 e ++ drop e before) e (f e) ≡ row f 0 (suc e) ++ drop (suc e) before
+row-set f before e h =
+    let same : 0 + e ≡ e = omega arith in
+    let longer : row f 0 (suc e) ≡ row f 0 e ++ (f e ∷ []) = rw (row-more f 0 e, same) in
+    ap (λ (l : List ℕ). set (row f 0 e ++ l) e (f e)) (drop-cons before e 0 h)
+    ∙ set-at (row f 0 e) _ _ (f e) e (length-row f 0 e)
+    ∙ sym (ap (λ (l : List ℕ). l ++ drop (suc e) before) longer ∙ append-snoc (row f 0 e) (f e) (drop (suc e) before))
+
+module _ (number : Slot → ℕ) (card before : List ℕ) where
+  pub filled-none : before ≡ filled number card 0 before
+  unfolding filled row
+  filled-none = refl
+
+  pub filled-more : (e : ℕ) → e < length before
+      → set (filled number card e before) e (number (slotOf card e)) ≡ filled number card (e + 1) before
+  unfolding filled
+  filled-more e h = rw add-one (row-set (λ i. number (slotOf card i)) before e h)
+
+  -- the turn that reads entry e
+  pub filled-turn : (e : ℕ) {l : List ℕ} {s : Slot} → e < length before → l ≡ filled number card e before → s ≡ slotOf card e
+      → set l e (number s) ≡ filled number card (e + 1) before
+  filled-turn e {l} {s} h el es =
+      ap (λ (x : List ℕ). set x e (number s)) el
+      ∙ ap (λ (x : Slot). set (filled number card e before) e (number x)) es
+      ∙ filled-more e h
+
+  -- all entries are read
+  pub filled-whole : (e m : ℕ) {l : List ℕ} → e ≡ m → l ≡ filled number card e before → l ≡ filled number card m before
+  filled-whole e m h el = el ∙ ap (λ (n : ℕ). filled number card n before) h
+
+  pub filled-length : (m : ℕ) → m ≤ length before → length (filled number card m before) ≡ length before
+  unfolding filled
+  filled-length m h = simp (length-append, length-drop, length-row) (omega arith)
+
+-- ---- room
+
+module _ (m words ones twos : ℕ) where
+  pub words-short : words < m → false ≡ hasRoom m words ones twos
+  words-short h = rw (lt-leb m words h)
+
+  pub ones-short : m ≤ words → ones < m → false ≡ hasRoom m words ones twos
+  ones-short g h = rw (le-leb m words g, lt-leb m ones h)
+
+  pub room-if : m ≤ words → m ≤ ones → leb m twos ≡ hasRoom m words ones twos
+  room-if g h = rw (le-leb m words g, le-leb m ones h)
+
+-- what room there is where the test holds
+pub record Fits (m words ones twos : ℕ) : Type 0 where
+  pub in-words : m ≤ words
+  pub in-ones : m ≤ ones
+  pub in-twos : m ≤ twos
+
+pub room-fits : (m words ones twos : ℕ) → hasRoom m words ones twos ≡ true → Fits m words ones twos
+room-fits m words ones twos e =
+    let h = both (leb m words && leb m ones) (leb m twos) e in
+    let g = both (leb m words) (leb m ones) (h .0) in
+    record { in-words = leb-true m words (g .0); in-ones = leb-true m ones (g .1); in-twos = leb-true m twos (h .1) }
+
+-- ---- the three outcomes
+
+module _ (limit : ℕ) (card words ones twos : List ℕ) where
+  listing-refused : {n p : ℕ} → admission limit card ≡ refused n p → listing limit card words ones twos ≡ refused n p
+  unfolding admission listing listTests
+  listing-refused e = first-refused _ _ (readingOrder limit card) (first-refused-any (readingOrder limit card) (toldBy card) sound e)
+
+  -- nothing is written where the answer is a refusal
+  untouched : {n : Refusal} → listing limit card words ones twos ≡ refused (n .number) (n .place)
+      → Listed limit card words ones twos (Refused n) words ones twos
+  untouched e = record { answer = sym e; in-words = rw e; in-ones = rw e; in-twos = rw e }
+
+  pub listed-refused : {n : Refusal} → admission limit card ≡ refused (n .number) (n .place)
+      → Listed limit card words ones twos (Refused n) words ones twos
+  listed-refused e = untouched (listing-refused e)
+
+  module _ {f : Format} (has : Admits limit card f) where
+    pub listed-no-room : hasRoom (f .m) (length words) (length ones) (length twos) ≡ false
+        → Listed limit card words ones twos (Refused (record { number = Room; place = 0 })) words ones twos
+    unfolding listing listTests
+    listed-no-room h = untouched (first-holds _ _ _ (has .order) ∙ first-fail _ _ _ _ _ (rw (has .told) at h))
+
+    listing-given : hasRoom (f .m) (length words) (length ones) (length twos) ≡ true → listing limit card words ones twos ≡ given f
+    unfolding listing listTests
+    listing-given h = first-holds _ _ _ (has .order) ∙ first-last _ _ _ _ (rw (has .told) at h) ∙ ap given (sym (has .told))
+
+    pub listed-filled : {words′ ones′ twos′ : List ℕ} → hasRoom (f .m) (length words) (length ones) (length twos) ≡ true
+        → words′ ≡ filled (λ s. s .word) card (f .m) words
+        → ones′ ≡ filled (λ s. s .one) card (f .m) ones
+        → twos′ ≡ filled (λ s. s .two) card (f .m) twos
+        → Listed limit card words ones twos (Card f) words′ ones′ twos′
+    listed-filled h w o t =
+        let e = listing-given h in
+        record { answer = sym e; in-words = rw e w; in-ones = rw e o; in-twos = rw e t }

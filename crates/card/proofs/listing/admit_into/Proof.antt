@@ -1,0 +1,88 @@
+-- `card::listing::admit_into` meets its contract: each return is one of the three outcomes. Assumes nothing.
+use borrow.Author.Needs.{needs}
+use mathlib.Core.Path.{_≡_, sym, ap, _∙_}
+use mathlib.Core.Bool.{true}
+use native.Mathlib.Omega.{arith}
+use lib.ListN.{length}
+use Rattle.entries.specs.declared.Format.{Format}
+use Rattle.card.specs.Listing.{hasRoom}
+use Rattle.card.specs.Reading.{mostEntries}
+use Rattle.card.proofs.FetchingLaws.{Admits, told-admitted, told-not-admitted}
+use Rattle.card.proofs.ListingLaws.{Fits, room-fits, listed-refused, listed-no-room, listed-filled}
+use Rattle.card.proofs.listing.admit_into.Statement.{statement}
+use Rattle.card.proofs.listing.admit_into.Tie as tie
+
+admit-requires : tie.Need-admit-requires
+admit-requires c κs = search needs
+
+enum-known-f : tie.Need-enum-known-f
+enum-known-f c = search needs
+
+has-room-requires : tie.Need-has-room-requires
+has-room-requires c κs = search needs
+
+-- ---- past the admission and the test of the room
+
+module _ (c : tie.Then1) where
+  abbrev admitted : tie.After-f
+  admitted = c .before .before .before
+
+  abbrev start : tie.Start
+  start = admitted .before .before .before .before .before .before .before
+
+  has : Admits mostEntries (start .args .card .now) (admitted .f .given .0 .0)
+  has = told-admitted _ _ (admitted .before .before .admit .ensures) (admitted .f .given .1)
+
+  room : hasRoom (admitted .f .given .0 .0 .m) (length (start .args .words .now)) (length (start .args .ones .now)) (length (start .args .twos .now)) ≡ true
+  room = sym (c .before .has-room .ensures) ∙ c .if1 .taken
+
+  fits : Fits (admitted .f .given .0 .0 .m) (length (start .args .words .now)) (length (start .args .ones .now)) (length (start .args .twos .now))
+  fits = room-fits _ _ _ _ room
+
+fill-requires : tie.Need-fill-requires
+fill-requires c κs =
+    let at = c .before .before .before in
+    let m = ap (λ (f : Format). f .m) (has at .told) in
+    ((omega (arith, m, has at .head .most), omega (arith, m, has at .size)), (fits at .in-words, fits at .in-ones, fits at .in-twos))
+
+enum-known-r : tie.Need-enum-known-r
+enum-known-r c = search needs
+
+same-length : tie.Need-same-length
+same-length c = search needs
+
+same-length-2 : tie.Need-same-length-2
+same-length-2 c = search needs
+
+same-length-3 : tie.Need-same-length-3
+same-length-3 c = search needs
+
+returns : tie.Need-returns
+returns c =
+    let filled = c .before .before .before .before .before .before in
+    let at = filled .before .before .before .before in
+    listed-filled _ _ _ _ _ (has at) (room at) (filled .fill .ensures .0) (filled .fill .ensures .1 .0) (filled .fill .ensures .1 .1)
+
+returns-2 : tie.Need-returns-2
+returns-2 c =
+    let told = c .before .before in
+    listed-no-room _ _ _ _ _ (told-admitted _ _ (told .before .before .before .admit .ensures) (told .before .f .given .1)) (sym (c .before .has-room .ensures) ∙ c .if1 .left)
+
+returns-3 : tie.Need-returns-3
+returns-3 c = listed-refused _ _ _ _ _ (told-not-admitted _ _ (c .before .before .before .admit .ensures) (c .before .r .given .1))
+
+pub admit-into-spec : {M : Type 1} → statement M
+admit-into-spec =
+    tie.close
+    (tie.spec
+    admit-requires
+    enum-known-f
+    has-room-requires
+    fill-requires
+    enum-known-r
+    same-length
+    same-length-2
+    same-length-3
+    returns
+    returns-2
+    returns-3)

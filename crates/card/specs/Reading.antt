@@ -1,0 +1,59 @@
+-- The reading order (01, "What can come back"): "Order on reading: 1; block 0: 2, 3, 4, 5, 6, 7, 8; then 9; then each later block in turn:
+-- 2, 3, its entries in turn (10 before 11), 8." It stands here alone; `limit` is the most entries that a card may have.
+-- Assumes nothing.
+use Prim.Native.Nat.{ℕ, _+_}
+use mathlib.Core.Bool.{Bool, _&&_, _||_}
+use mathlib.Core.List.{List, [], _∷_, _++_}
+use lib.ListN.{length}
+use lib.Dec.{leb, eqb}
+use Rattle.answers.specs.Numbers.{Short, Form, Kind, Length, Count, Spare, Size}
+use Rattle.answers.specs.Answer.{Test, test, inTurn}
+use Rattle.block.specs.Block.{blockBytes, blockAt, blockTests}
+use Rattle.entries.specs.declared.Format.{Format}
+use Rattle.entries.specs.Slot.{slotAt}
+use Rattle.entries.specs.Fault.{pair, span, leastLength, mostLength, entryTests}
+use Rattle.card.specs.Layout.{formOf, formatOf, entryBlocks, sizeOf, entriesBefore, entriesIn, headSpare, slotsSpare}
+
+-- "A card has m entries, 1 ≤ m ≤ 504."
+abbrev pub mostEntries : ℕ
+mostEntries = 504
+
+-- x is from lo up to hi, both included
+abbrev pub isWithin : ℕ → ℕ → ℕ → Bool
+isWithin lo hi x = leb lo x && leb x hi
+
+abbrev pub isKind : ℕ → Bool
+isKind kind = eqb kind pair || eqb kind span
+
+-- block 0: 4, 5, 6, 7, 8
+unfoldable pub fieldTests : ℕ → List ℕ → List Test
+fieldTests limit b =
+    test (eqb (formOf b) 1) Form 0
+    ∷ test (isKind (formatOf b .kind)) Kind 0
+    ∷ test (isWithin leastLength mostLength (formatOf b .l)) Length 0
+    ∷ test (isWithin 1 limit (formatOf b .m)) Count 0
+    ∷ test (headSpare b) Spare 0
+    ∷ []
+
+-- 1; block 0: 2, 3, 4, 5, 6, 7, 8
+unfoldable pub headTests : ℕ → List ℕ → List Test
+headTests limit card =
+    test (leb blockBytes (length card)) Short 0 ∷ (blockTests (blockAt card 0) 0 ++ fieldTests limit (blockAt card 0))
+
+-- the entries of the block b in turn, n of them, of which the first is entry e of the card
+unfoldable pub slotsTests : Format → List ℕ → ℕ → ℕ → List Test
+slotsTests f b e n = inTurn (λ j. entryTests f (e + j) (slotAt b j)) 0 n
+
+-- block k, which is not block 0: 2, 3, its entries in turn, 8
+unfoldable pub laterTests : Format → List ℕ → ℕ → List Test
+laterTests f card k =
+    blockTests (blockAt card k) k
+    ++ (slotsTests f (blockAt card k) (entriesBefore k) (entriesIn (f .m) k)
+    ++ (test (slotsSpare (blockAt card k) (entriesIn (f .m) k)) Spare k ∷ []))
+
+unfoldable pub readingOrder : ℕ → List ℕ → List Test
+readingOrder limit card =
+    let f = formatOf (blockAt card 0) in
+    headTests limit card
+    ++ (test (eqb (length card) (sizeOf (f .m))) Size 0
+    ∷ inTurn (laterTests f card) 1 (entryBlocks (f .m)))

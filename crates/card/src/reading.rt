@@ -1,0 +1,164 @@
+// The reading order of a card: every rule in turn, up to the first that is broken.
+ghost use mathlib.Core.Path.{_≡_};
+ghost use Prim.Native.Nat.{_+_, _*_, _≤_};
+ghost use lib.ListN.{length};
+ghost use Rattle.answers.specs.Answer.{first, sound, saysHeld, inTurn};
+ghost use Rattle.block.specs.Block.{blockBytes};
+ghost use Rattle.entries.specs.Fault.{mostLength};
+ghost use Rattle.card.specs.Layout.{formatOf, perBlock, entryBlocks, sizeOf};
+ghost use Rattle.card.specs.Reading.{mostEntries, isWithin, isKind, fieldTests, headTests, slotsTests, laterTests, readingOrder};
+ghost use Rattle.card.specs.Fetching.{toldBy};
+use crate::layout;
+use crate::layout::MOST;
+use crate::layout::PER_BLOCK;
+use answers::Held;
+use answers::Refusal;
+use block::BLOCK;
+use entries::Format;
+
+// Whether x is from lo up to hi, both included.
+fn is_within(lo: usize, hi: usize, x: usize) -> bool
+    ensures { λ r. ⌜ r ≡ isWithin lo hi x ⌝ }
+{
+    if lo <= x {
+        return x <= hi;
+    }
+    false
+}
+
+// Whether there is such a kind of card.
+fn is_kind(kind: usize) -> bool
+    ensures { λ r. ⌜ r ≡ isKind kind ⌝ }
+{
+    if kind == entries::PAIR {
+        return true;
+    }
+    kind == entries::SPAN
+}
+
+// The fields of block 0: its form, its kind, l, m and its spare bytes.
+fn fields_hold(head: &[u8], f: Format) -> Held
+    requires { ⌜ (length (now head) ≡ blockBytes) × (f ≡ formatOf (now head)) ⌝ }
+    ensures { λ r. ⌜ saysHeld r ≡ first (fieldTests mostEntries (now (head .entry))) sound ⌝ }
+{
+    if head[0] != 1 {
+        return Held::Refused(Refusal {
+            number: answers::FORM,
+            place: 0,
+        });
+    }
+    if !is_kind(f.kind) {
+        return Held::Refused(Refusal {
+            number: answers::KIND,
+            place: 0,
+        });
+    }
+    if !is_within(entries::LEAST_LENGTH, entries::MOST_LENGTH, f.l) {
+        return Held::Refused(Refusal {
+            number: answers::LENGTH,
+            place: 0,
+        });
+    }
+    if !is_within(1, MOST, f.m) {
+        return Held::Refused(Refusal {
+            number: answers::COUNT,
+            place: 0,
+        });
+    }
+    if layout::head_spare(head) {
+        Held::Holds
+    } else {
+        Held::Refused(Refusal {
+            number: answers::SPARE,
+            place: 0,
+        })
+    }
+}
+
+// The card is not short, and block 0 holds with all its fields.
+fn head_holds(card: &[u8]) -> Held
+    ensures { λ r. ⌜ saysHeld r ≡ first (headTests mostEntries (now (card .entry))) sound ⌝ }
+{
+    if card.len() < BLOCK {
+        return Held::Refused(Refusal {
+            number: answers::SHORT,
+            place: 0,
+        });
+    }
+    let head = block::fetch(card, 0);
+    if head.len() == 0 {
+        return block::companion(card, 0);
+    }
+    fields_hold(head, layout::format_of(head))
+}
+
+// The first n slots of a block, of which the first is entry e.
+fn slots_hold(part: &[u8], f: Format, e: usize, n: usize) -> Held
+    requires { ⌜ (length (now part) ≡ blockBytes) × (f .l ≤ mostLength) × (e ≤ mostEntries) × (n ≤ perBlock) ⌝ }
+    ensures { λ r. ⌜ saysHeld r ≡ first (slotsTests f (now (part .entry)) e n) sound ⌝ }
+{
+    let mut j = 0;
+    while j < n {
+        if let Held::Refused(r) = entries::entry_holds(f, e + j, entries::slot_at(part, j)) {
+            return Held::Refused(r);
+        }
+        j += 1;
+    }
+    Held::Holds
+}
+
+// Block k, which is not block 0: it holds, its entries do, and its spare bytes are zero.
+fn later_holds(card: &[u8], f: Format, k: usize) -> Held
+    requires { ⌜ (f .l ≤ mostLength) × (f .m ≤ mostEntries) × (1 ≤ k) × (k ≤ entryBlocks (f .m)) × (blockBytes * k + blockBytes ≤ length (now card)) ⌝ }
+    ensures { λ r. ⌜ saysHeld r ≡ first (laterTests f (now (card .entry)) k) sound ⌝ }
+{
+    let part = block::fetch(card, k);
+    if part.len() == 0 {
+        return block::companion(card, k);
+    }
+    let n = layout::entries_in(f.m, k);
+    if let Held::Refused(r) = slots_hold(part, f, PER_BLOCK * (k - 1), n) {
+        return Held::Refused(r);
+    }
+    if layout::slots_spare(part, n) {
+        Held::Holds
+    } else {
+        Held::Refused(Refusal {
+            number: answers::SPARE,
+            place: k,
+        })
+    }
+}
+
+// Each later block in turn.
+fn laters_hold(card: &[u8], f: Format) -> Held
+    requires { ⌜ (f .l ≤ mostLength) × (f .m ≤ mostEntries) × (length (now card) ≡ sizeOf (f .m)) ⌝ }
+    ensures { λ r. ⌜ saysHeld r ≡ first (inTurn (laterTests f (now (card .entry))) 1 (entryBlocks (f .m))) sound ⌝ }
+{
+    let last = layout::entry_blocks(f.m);
+    let mut k = 1;
+    while k <= last {
+        if let Held::Refused(r) = later_holds(card, f, k) {
+            return Held::Refused(r);
+        }
+        k += 1;
+    }
+    Held::Holds
+}
+
+// Every rule of a card in the reading order.
+pub fn card_holds(card: &[u8]) -> Held
+    ensures { λ r. ⌜ saysHeld r ≡ first (readingOrder mostEntries (now (card .entry))) sound ⌝ }
+{
+    if let Held::Refused(r) = head_holds(card) {
+        return Held::Refused(r);
+    }
+    let f = layout::told_by(card);
+    if card.len() != BLOCK * (1 + layout::entry_blocks(f.m)) {
+        return Held::Refused(Refusal {
+            number: answers::SIZE,
+            place: 0,
+        });
+    }
+    laters_hold(card, f)
+}

@@ -1,0 +1,49 @@
+-- What the places of a sound entry are: each allowed place is a place of the card. Assumes nothing.
+use mathlib.Core.Path.{_≡_, refl}
+use mathlib.Core.Logic.{⊎-elim}
+use mathlib.Core.Bool.{Bool, true, false, cond, _&&_, _||_}
+use Prim.Native.Nat.{ℕ, _+_, _-_, _<_}
+use native.Mathlib.Omega.{arith}
+use lib.Dec.{leb, ltb, eqb}
+use borrow.Author.Tests.{ltb-true, leb-true, eqb-true}
+use Rattle.answers.proofs.Tests.{both, either}
+use Rattle.entries.specs.declared.Places.the-variants.{One, Two, Span}
+use Rattle.entries.specs.Fault.{span, widest, noPlace, isPlace, pairHolds, spanHolds, placesHold}
+use Rattle.entries.specs.Entry.{placesOf, allows}
+
+module _ (m one two p : ℕ) where
+  span-below : spanHolds m one two ≡ true → allows (Span one two) p ≡ true → p < m
+  unfolding spanHolds
+  span-below h a =
+      let in-order = both (isPlace m one && isPlace m two && leb one two) (leb (two - one + 1) widest) h .0 in
+      let places = both (isPlace m one && isPlace m two) (leb one two) in-order .0 in
+      omega (arith, ltb-true two m (both (isPlace m one) (isPlace m two) places .1), leb-true p two (both (leb one p) (leb p two) a .1))
+
+  -- place one alone
+  one-below : pairHolds m one two ≡ true → allows (One one) p ≡ true → p < m
+  unfolding pairHolds
+  one-below h a = omega (arith, ltb-true one m (both (isPlace m one) _ h .0), eqb-true p one a)
+
+  -- place one, or place two
+  two-below : pairHolds m one two ≡ true → eqb two noPlace ≡ false → allows (Two one two) p ≡ true → p < m
+  unfolding pairHolds
+  two-below h n a =
+      let parts = both (isPlace m one) (eqb two noPlace || (ltb one two && isPlace m two)) h in
+      let rest : (eqb two noPlace || (ltb one two && isPlace m two)) ≡ true = parts .1 in
+      let second : (ltb one two && isPlace m two) ≡ true = rw n at rest in
+      ⊎-elim (λ e. omega (arith, ltb-true one m (parts .0), eqb-true p one e))
+      (λ e. omega (arith, ltb-true two m (both (ltb one two) (isPlace m two) second .1), eqb-true p two e))
+      (either (eqb p one) (eqb p two) a)
+
+-- "A place p satisfies 0 ≤ p ≤ m−1"
+pub allowed-below : (kind m one two p : ℕ) → placesHold kind m one two ≡ true → allows (placesOf kind one two) p ≡ true → p < m
+unfolding placesHold placesOf
+allowed-below kind m one two p = go (eqb kind span) (eqb two noPlace) refl
+  where
+    go : (s n : Bool) → eqb two noPlace ≡ n
+        → cond s (spanHolds m one two) (pairHolds m one two) ≡ true
+        → allows (cond s (Span one two) (cond n (One one) (Two one two))) p ≡ true
+        → p < m
+    go true n e h a = span-below m one two p h a
+    go false true e h a = one-below m one two p h a
+    go false false e h a = two-below m one two p h e a

@@ -1,0 +1,93 @@
+-- The laws of an entry's faults and places that this crate's proofs and the crates above cite. No contract cites this file.
+-- Assumes nothing.
+use mathlib.Core.Path.{_≡_, refl, sym, ap, _∙_}
+use mathlib.Core.Bool.{Bool, true, false, cond, _&&_, _||_, and-false}
+use mathlib.Core.List.{List, [], _∷_}
+use Prim.Native.Nat.{ℕ, suc, _+_, _-_, _^_, _≤_, _<_}
+use native.Mathlib.Numerals.{add-one}
+use native.Mathlib.Omega.{arith}
+use lib.Dec.{leb, ltb, eqb}
+use borrow.Author.Tests.{lt-ltb, le-ltb, le-leb, lt-leb, ltb-true, ltb-false, eq-eqb, ne-eqb}
+use Rattle.answers.specs.Numbers.{Word, Places}
+use Rattle.answers.specs.Answer.{given, refused, sound, first}
+use Rattle.entries.specs.declared.Format.{Format}
+use Rattle.entries.specs.declared.Slot.{Slot}
+use Rattle.entries.specs.declared.Places.the-variants.{One, Two, Span}
+use Rattle.entries.specs.Fault.{span, widest, noPlace, isPlace, pairHolds, spanHolds, placesHold, entryTests}
+use Rattle.entries.specs.Entry.{placesOf}
+
+-- ---- the places of a pair card
+
+module _ (m one two : ℕ) where
+  pub pair-out : isPlace m one ≡ false → false ≡ pairHolds m one two
+  unfolding pairHolds
+  pair-out h = rw h
+
+  module _ (there : isPlace m one ≡ true) where
+    pub pair-one : two ≡ noPlace → true ≡ pairHolds m one two
+    unfolding pairHolds
+    pair-one e = rw (there, eq-eqb two noPlace e)
+
+    pub pair-two : (two ≡ noPlace → ⊥) → one < two → isPlace m two ≡ pairHolds m one two
+    unfolding pairHolds
+    pair-two n h = rw (there, ne-eqb two noPlace n, lt-ltb one two h)
+
+    pub pair-turned : (two ≡ noPlace → ⊥) → two ≤ one → false ≡ pairHolds m one two
+    unfolding pairHolds
+    pair-turned n h = rw (there, ne-eqb two noPlace n, le-ltb one two h)
+
+  -- ---- the places of a span card
+
+  pub span-turned : two < one → false ≡ spanHolds m one two
+  unfolding spanHolds
+  span-turned h = rw (lt-leb one two h, and-false (isPlace m one && isPlace m two))
+
+  pub span-out : isPlace m two ≡ false → false ≡ spanHolds m one two
+  unfolding spanHolds
+  span-out h = rw (h, and-false (isPlace m one))
+
+  pub span-width : one ≤ two → isPlace m two ≡ true → ltb (two - one) widest ≡ spanHolds m one two
+  unfolding spanHolds
+  span-width h there =
+      let o : isPlace m one ≡ true = lt-ltb one m (omega (arith, ltb-true two m there)) in
+      rw (o, there, le-leb one two h, add-one)
+
+-- ---- by the kind
+
+module _ (kind m one two : ℕ) where
+  pub span-holds : kind ≡ span → spanHolds m one two ≡ placesHold kind m one two
+  unfolding placesHold
+  span-holds h = rw (eq-eqb kind span h)
+
+  pub pair-holds : (kind ≡ span → ⊥) → pairHolds m one two ≡ placesHold kind m one two
+  unfolding placesHold
+  pair-holds h = rw (ne-eqb kind span h)
+
+module _ (kind one two : ℕ) where
+  pub span-places : kind ≡ span → Span one two ≡ placesOf kind one two
+  unfolding placesOf
+  span-places h = rw (eq-eqb kind span h)
+
+  pub one-place : (kind ≡ span → ⊥) → two ≡ noPlace → One one ≡ placesOf kind one two
+  unfolding placesOf
+  one-place h n = rw (ne-eqb kind span h, eq-eqb two noPlace n)
+
+  pub two-places : (kind ≡ span → ⊥) → (two ≡ noPlace → ⊥) → Two one two ≡ placesOf kind one two
+  unfolding placesOf
+  two-places h n = rw (ne-eqb kind span h, ne-eqb two noPlace n)
+
+-- ---- the tests of an entry
+
+module _ (f : Format) (e : ℕ) (s : Slot) where
+  pub word-over : 4 ^ f .l ≤ s .word → first (entryTests f e s) sound ≡ refused Word e
+  unfolding entryTests first
+  word-over h = rw (le-ltb (s .word) (4 ^ f .l) h)
+
+  module _ (fits : s .word < 4 ^ f .l) where
+    pub places-wrong : placesHold (f .kind) (f .m) (s .one) (s .two) ≡ false → first (entryTests f e s) sound ≡ refused Places e
+    unfolding entryTests first
+    places-wrong h = rw (lt-ltb (s .word) (4 ^ f .l) fits, h)
+
+    pub entry-sound : placesHold (f .kind) (f .m) (s .one) (s .two) ≡ true → first (entryTests f e s) sound ≡ given sound
+    unfolding entryTests first
+    entry-sound h = rw (lt-ltb (s .word) (4 ^ f .l) fits, h)

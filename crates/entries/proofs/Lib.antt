@@ -1,0 +1,5 @@
+-- `Laws` has what this crate's proofs and the crates above cite of an entry, `Allowed` what the places of a sound entry are, `Edges` the
+-- scope's edges of the numbers.
+pub mod Laws
+pub mod Allowed
+pub mod Edges

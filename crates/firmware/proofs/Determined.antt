@@ -1,0 +1,42 @@
+-- Each exported contract determines the outcome: two results that both meet it at the same input are equal. `Post` is the contract as it
+-- is read from the source. Assumes nothing.
+use mathlib.Core.Path.{_≡_, sym, _∙_}
+use contract.Lifetimes.{Lfts}
+use denote.Triple.Clauses.{AtExit}
+use borrow.Fn.Kinds.{Dens, resT, endedOf}
+use Rattle.firmware.proofs.belfrymist_admit.Kinds as admit
+use Rattle.firmware.proofs.belfrymist_admit.Reads as admit-reads
+use Rattle.firmware.proofs.belfrymist_entry.Kinds as entry
+use Rattle.firmware.proofs.belfrymist_entry.Reads as entry-reads
+use Rattle.firmware.proofs.belfrymist_step.Kinds as step
+use Rattle.firmware.proofs.belfrymist_step.Reads as step-reads
+use Rattle.firmware.proofs.belfrymist_companion.Kinds as companion
+use Rattle.firmware.proofs.belfrymist_companion.Reads as companion-reads
+use Rattle.firmware.proofs.belfrymist_fetch.Kinds as fetch
+use Rattle.firmware.proofs.belfrymist_fetch.Reads as fetch-reads
+
+module _ (κs : Lfts 1) where
+  -- what admitting answers
+  pub admit-one : (a : Dens κs admit.ps) (r r′ : resT admit.r κs .Denot) (e e′ : AtExit (endedOf 1 admit.ps admit.r) κs)
+      → admit-reads.Post κs a r e → admit-reads.Post κs a r′ e′ → r ≡ r′
+  admit-one a r r′ e e′ p q = p ∙ sym q
+
+  -- what fetching an entry answers
+  pub entry-one : (a : Dens κs entry.ps) (r r′ : resT entry.r κs .Denot) (e e′ : AtExit (endedOf 1 entry.ps entry.r) κs)
+      → entry-reads.Post κs a r e → entry-reads.Post κs a r′ e′ → r ≡ r′
+  entry-one a r r′ e e′ p q = p ∙ sym q
+
+  -- what a step of the reading head answers
+  pub step-one : (a : Dens κs step.ps) (r r′ : resT step.r κs .Denot) (e e′ : AtExit (endedOf 1 step.ps step.r) κs)
+      → step-reads.Post κs a r e → step-reads.Post κs a r′ e′ → r ≡ r′
+  step-one a r r′ e e′ p q = p ∙ sym q
+
+  -- what the companion of a fetch answers
+  pub companion-one : (a : Dens κs companion.ps) (r r′ : resT companion.r κs .Denot) (e e′ : AtExit (endedOf 1 companion.ps companion.r) κs)
+      → companion-reads.Post κs a r e → companion-reads.Post κs a r′ e′ → r ≡ r′
+  companion-one a r r′ e e′ p q = p ∙ sym q
+
+  -- where the fetched part stands
+  pub fetch-one : (a : Dens κs fetch.ps) (r r′ : resT fetch.r κs .Denot) (e e′ : AtExit (endedOf 1 fetch.ps fetch.r) κs)
+      → fetch-reads.Post κs a r e → fetch-reads.Post κs a r′ e′ → r ≡ r′
+  fetch-one a r r′ e e′ p q = p ∙ sym q

@@ -1,0 +1,72 @@
+-- From what the layers below say of an answer to the same answer as a struct of numbers. No contract cites this file. Assumes nothing.
+use mathlib.Core.Path.{_≡_, refl, sym, ap, _∙_}
+use mathlib.Core.List.{List}
+use Prim.Native.Nat.{ℕ, _*_, _+_, _≤_}
+use lib.ListN.{length}
+use Rattle.answers.specs.Answer.{Answer, given, refused, Sound, sound, first}
+use Rattle.block.specs.Block.{blockBytes, fetchTests, fetchOf}
+use Rattle.block.proofs.Laws.{holds-there, fetch-length, fetch-none, fetch-some}
+use Rattle.entries.specs.declared.Entry.{Entry}
+use Rattle.card.specs.Fetching.{more}
+use Rattle.firmware.specs.declared.Shape.{Shape}
+use Rattle.firmware.specs.declared.EntryAnswer.{EntryAnswer}
+use Rattle.firmware.specs.declared.StepAnswer.{StepAnswer}
+use Rattle.firmware.specs.declared.PartAnswer.{PartAnswer}
+use Rattle.firmware.specs.Flat.{shapeOf, entryAnswer, stepAnswer, partAnswer}
+
+-- ---- an enum that says what an answer is
+
+-- the enum r says t, and is the case x: so t, as a struct, is what x says, as a struct
+pub told : {E A B : Type 0} (says : E → A) (flat : A → B) {r x : E} {t : A} → says r ≡ t → r ≡ x → flat (says x) ≡ flat t
+told says flat e q = ap flat (sym (ap says q) ∙ e)
+
+-- ---- an entry
+
+module _ (e : Entry) {s : Shape} (q : s ≡ shapeOf (e .places)) where
+  -- what a fetch found
+  pub entry-flat :
+      _≡_ {A = EntryAnswer}
+      (record { number = 0; place = 0; shape = s .shape; word = e .word; first = s .first; second = s .second })
+      (entryAnswer (given e))
+  entry-flat = λ i. record { number = 0; place = 0; shape = q i .shape; word = e .word; first = q i .first; second = q i .second }
+
+  -- what a step hands back
+  pub step-flat : {next : ℕ}
+      → _≡_ {A = StepAnswer}
+      (record { number = 0; place = 0; shape = s .shape; word = e .word; first = s .first; second = s .second; next = next })
+      (stepAnswer (given (more e next)))
+  step-flat {next} =
+      λ i. record {
+        number = 0;
+        place = 0;
+        shape = q i .shape;
+        word = e .word;
+        first = q i .first;
+        second = q i .second;
+        next = next;
+      }
+
+-- ---- a part, by its length
+
+module _ (card : List ℕ) (k : ℕ) {part : List ℕ} (e : part ≡ fetchOf card k) where
+  -- an empty part
+  pub part-none : length part ≡ 0 → _≡_ {A = PartAnswer} (record { at = 0; length = 0 }) (partAnswer k (first (fetchTests card k) sound))
+  part-none z = go (first (fetchTests card k) sound) refl
+    where
+      go : (r : Answer Sound) → first (fetchTests card k) sound ≡ r → _≡_ {A = PartAnswer} (record { at = 0; length = 0 }) (partAnswer k r)
+      go (given sound) q = absurd (fetch-none card k (rw e at z) q)
+      go (refused n p) q = refl
+
+  module _ (some : length part ≡ 0 → ⊥) where
+    holds : first (fetchTests card k) sound ≡ given sound
+    holds = fetch-some card k (rw e at some)
+
+    -- a part that is not empty is of the card
+    pub part-there : blockBytes * k + blockBytes ≤ length card
+    part-there = holds-there card k sound sound holds
+
+    pub part-some :
+        _≡_ {A = PartAnswer} (record { at = blockBytes * k; length = length part }) (partAnswer k (first (fetchTests card k) sound))
+    part-some =
+        let whole : length part ≡ blockBytes = ap length e ∙ fetch-length card k holds in
+        (λ i. record { at = blockBytes * k; length = whole i }) ∙ ap (partAnswer k) (sym holds)

@@ -1,0 +1,2 @@
+-- `Flat` is each answer as a struct of numbers.
+pub mod Flat

@@ -1,0 +1,37 @@
+// The letters and their codes: one table, used forward to spell a code and searched to read a letter.
+ghost use mathlib.Core.Path.{_≡_};
+ghost use Prim.Native.Nat.{_<_};
+ghost use Rattle.letters.specs.Letters.{codes, letterOf, codeOf, saysCode};
+
+// How many codes there are.
+const CODES: usize = 4;
+// The letters in the order of their codes.
+const LETTERS: [u8; CODES] = [b'A', b'C', b'G', b'T'];
+
+// What reading a byte answers: the code that it is the letter of, or that it is no letter.
+pub enum Code {
+    Is(u8),
+    NoLetter,
+}
+
+// The letter of a code.
+pub fn letter_of(code: usize) -> u8
+    requires { ⌜ code < codes ⌝ }
+    ensures { λ r. ⌜ r ≡ letterOf code ⌝ }
+{
+    LETTERS[code]
+}
+
+// The code of a letter, for any byte: where it first stands in the table, or that it is no letter.
+pub fn code_of(byte: u8) -> Code
+    ensures { λ r. ⌜ saysCode r ≡ codeOf byte ⌝ }
+{
+    let mut code = 0;
+    while code < CODES {
+        if LETTERS[code] == byte {
+            return Code::Is(code as u8);
+        }
+        code += 1;
+    }
+    Code::NoLetter
+}

@@ -1,0 +1,3 @@
+-- `HashLaws` has what the loops over lists cite, `LineLaws` how many digits a number has.
+pub mod HashLaws
+pub mod LineLaws

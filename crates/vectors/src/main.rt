@@ -1,0 +1,96 @@
+// Runs stored records, each of which sets the card or calls one operation on it, and prints a line for each call. The records stand on
+// standard input, one after the other: a tag byte, and then the record's fields, little-endian.
+//     C n bytes    sets the card to the n bytes after it (n in four bytes)
+//     A            admit                `admit KIND L M`
+//     E i          fetch entry i        `entry WORD PLACES`
+//     H at         step a head at `at`  `step WORD PLACES NEXT`, or `end`
+//     B k          fetch block k        `part LENGTH HASH`
+//     F k          its companion        `holds`
+//     L a b c      admit into lists of a words, b places one and c places two (two bytes each)
+//                                       `lists KIND L M X Y Z`, with the hash of each list afterwards
+// A call that refuses prints `refused N P`, for L with the three hashes after it. PLACES is `one P`, `two P Q` or `span F G`. i, `at` and k
+// have eight bytes. A record that is none of these, or is cut, ends the run with the line `bad record`.
+mod fields;
+mod hashes;
+mod lines;
+mod records;
+
+ghost use mathlib.Core.Path.{_≡_};
+ghost use Prim.Native.Nat.{_≤_};
+ghost use lib.ListN.{length};
+use fields::Field;
+use fields::Tag;
+use lines::Line;
+
+// The most bytes of a card.
+const MOST: usize = 6144;
+// A proved loop has to end, and nothing says that standard input does: no run has as many records.
+const TURNS: u32 = 4000000;
+
+// What a record leaves: how many bytes the card has, and whether there is more to read.
+struct Turn {
+    n: usize,
+    more: bool,
+}
+
+// A record that is not one ends the run.
+fn bad() -> Turn
+    ensures { λ r. ⌜ r .n ≡ 0 ⌝ }
+{
+    Line::new().text(b"bad record").print();
+    Turn { n: 0, more: false }
+}
+
+// Sets the card to the bytes that follow.
+fn set_card(card: &mut [u8]) -> Turn
+    ensures { λ r. ⌜ r .n ≤ length (now (card .exit)) ⌝ }
+{
+    let Field::Is(n) = fields::four() else {
+        return bad();
+    };
+    if card.len() < n {
+        return bad();
+    }
+    let got = io::read_full(libc::STDIN_FILENO, &mut card[..n]);
+    if got < n {
+        return bad();
+    }
+    Turn { n, more: true }
+}
+
+// Runs the next record on the card, which is the first n bytes of its buffer.
+fn run(card: &mut [u8], n: usize) -> Turn
+    requires { ⌜ n ≤ length (now card) ⌝ }
+    ensures { λ r. ⌜ r .n ≤ length (now (card .exit)) ⌝ }
+{
+    let Tag::Is(tag) = fields::next_tag() else {
+        return Turn { n: 0, more: false };
+    };
+    if tag == b'C' {
+        return set_card(card);
+    }
+    if records::answer(tag, &card[..n]) {
+        Turn { n, more: true }
+    } else {
+        bad()
+    }
+}
+
+// Runs the records in turn.
+fn run_all(card: &mut [u8]) {
+    let mut n = 0;
+    let mut turns = TURNS;
+    while 0 < turns {
+        let t = run(card, n);
+        if !t.more {
+            return;
+        }
+        n = t.n;
+        turns -= 1;
+    }
+}
+
+fn main() {
+    let mut card = [0u8; MOST];
+    run_all(&mut card);
+}

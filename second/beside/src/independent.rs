@@ -1,0 +1,115 @@
+//! The answers of `second`, put as the compiled library puts them.
+
+use second::block;
+use second::entry::{Entry, Places};
+use second::reader::{self, Head};
+use second::refusal::Refusal;
+
+use crate::firmware::{Admitted, EntryAnswer, Held, Part, StepAnswer};
+
+/// Admits the card.
+pub fn admit(card: &[u8]) -> Admitted {
+    match reader::admit(card) {
+        Ok(profile) => Admitted {
+            kind: usize::from(profile.kind.number()),
+            l: usize::from(profile.l),
+            m: usize::from(profile.m),
+            ..Admitted::default()
+        },
+        Err(refusal) => {
+            let (number, place) = number_and_place(refusal);
+            Admitted {
+                number,
+                place,
+                ..Admitted::default()
+            }
+        }
+    }
+}
+
+/// Fetches entry i.
+pub fn entry(card: &[u8], i: usize) -> EntryAnswer {
+    match reader::entry(card, i) {
+        Ok(entry) => {
+            let (shape, first, second) = shape_and_places(entry);
+            EntryAnswer {
+                shape,
+                word: entry.word as usize,
+                first,
+                second,
+                ..EntryAnswer::default()
+            }
+        }
+        Err(refusal) => {
+            let (number, place) = number_and_place(refusal);
+            EntryAnswer {
+                number,
+                place,
+                ..EntryAnswer::default()
+            }
+        }
+    }
+}
+
+/// Takes a step from this head.
+pub fn step(card: &[u8], at: usize) -> StepAnswer {
+    match (Head { at }).step(card) {
+        Ok(Some((entry, moved))) => {
+            let (shape, first, second) = shape_and_places(entry);
+            StepAnswer {
+                shape,
+                word: entry.word as usize,
+                first,
+                second,
+                next: moved.at,
+                ..StepAnswer::default()
+            }
+        }
+        Ok(None) => StepAnswer::default(),
+        Err(refusal) => {
+            let (number, place) = number_and_place(refusal);
+            StepAnswer {
+                number,
+                place,
+                ..StepAnswer::default()
+            }
+        }
+    }
+}
+
+/// Says whether the fetch of block k holds.
+pub fn companion(card: &[u8], k: usize) -> Held {
+    match block::companion(card, k) {
+        Ok(()) => Held::default(),
+        Err(refusal) => {
+            let (number, place) = number_and_place(refusal);
+            Held { number, place }
+        }
+    }
+}
+
+/// Fetches block k.
+pub fn fetch(card: &[u8], k: usize) -> Part {
+    match block::fetch(card, k) {
+        // The part lies within the card, so that the difference says where it begins.
+        Some(part) => Part {
+            at: part.as_ptr() as usize - card.as_ptr() as usize,
+            length: part.len(),
+        },
+        None => Part::default(),
+    }
+}
+
+/// The refusal's number and place.
+fn number_and_place(refusal: Refusal) -> (usize, usize) {
+    (usize::from(refusal.number()), refusal.place)
+}
+
+/// The shape of the allowed places, and the places; the second is 0 where there is none.
+fn shape_and_places(entry: Entry) -> (usize, usize, usize) {
+    match entry.places {
+        Places::One(place) => (1, usize::from(place), 0),
+        Places::Two(one, two) => (2, usize::from(one), usize::from(two)),
+        Places::Span(first, last) => (3, usize::from(first), usize::from(last)),
+    }
+}

@@ -1,0 +1,149 @@
+//! One entry: as it is stored, and as a word with its allowed places.
+
+use crate::numbers::{ENTRY, NO_PLACE, SPAN_WIDTH};
+use crate::reader::{Kind, Profile};
+use crate::refusal::Reason;
+
+/// The places that an entry is allowed.
+#[derive(Clone, Copy, Debug, PartialEq, Eq)]
+pub enum Places {
+    /// One place.
+    One(u16),
+    /// Two places, the lower one first.
+    Two(u16, u16),
+    /// Every place from the first to the last, both included; they may be equal.
+    Span(u16, u16),
+}
+
+/// A word with its allowed places.
+#[derive(Clone, Copy, Debug, PartialEq, Eq)]
+pub struct Entry {
+    /// The word's value.
+    pub word: u32,
+    /// Where the word may stand.
+    pub places: Places,
+}
+
+/// The three fields of an entry as the card stores them, sound or not.
+#[derive(Clone, Copy, Debug, PartialEq, Eq)]
+pub struct Stored {
+    /// The word's value.
+    pub word: u32,
+    /// Place one.
+    pub one: u16,
+    /// Place two.
+    pub two: u16,
+}
+
+impl Stored {
+    /// The fields that the bytes of an entry hold.
+    pub fn of_bytes(bytes: &[u8; ENTRY]) -> Stored {
+        let [w0, w1, w2, w3, p0, p1, q0, q1] = *bytes;
+        Stored {
+            word: u32::from_le_bytes([w0, w1, w2, w3]),
+            one: u16::from_le_bytes([p0, p1]),
+            two: u16::from_le_bytes([q0, q1]),
+        }
+    }
+
+    /// The entry that the fields mean on such a card, or the rule that they break: 10 before 11.
+    pub fn entry(self, profile: &Profile) -> Result<Entry, Reason> {
+        // A word of l letters is below 4^l, which is two bits for each letter.
+        if self.word >> (2 * u32::from(profile.l)) != 0 {
+            return Err(Reason::Word);
+        }
+        let places = self.places(profile).ok_or(Reason::Places)?;
+        Ok(Entry {
+            word: self.word,
+            places,
+        })
+    }
+
+    /// The allowed places, where the card's place rules hold.
+    fn places(self, profile: &Profile) -> Option<Places> {
+        let Stored { one, two, .. } = self;
+        // No card has 65,535 entries, so that "no place" is never below m.
+        match profile.kind {
+            Kind::Pair if two == NO_PLACE => (one < profile.m).then_some(Places::One(one)),
+            Kind::Pair => (one < two && two < profile.m).then_some(Places::Two(one, two)),
+            Kind::Span => (one <= two && two < profile.m && two - one < SPAN_WIDTH)
+                .then_some(Places::Span(one, two)),
+        }
+    }
+}
+
+#[cfg(test)]
+mod tests {
+    use super::*;
+
+    const NONE: u16 = 65_535;
+
+    fn meant(kind: Kind, one: u16, two: u16) -> Result<Places, Reason> {
+        let profile = Profile { kind, l: 2, m: 20 };
+        let stored = Stored { word: 0, one, two };
+        stored.entry(&profile).map(|entry| entry.places)
+    }
+
+    #[test]
+    fn places_of_a_pair_card() {
+        let meant = |one, two| meant(Kind::Pair, one, two);
+        assert_eq!(meant(0, NONE), Ok(Places::One(0)));
+        assert_eq!(meant(19, NONE), Ok(Places::One(19)));
+        assert_eq!(meant(20, NONE), Err(Reason::Places));
+        assert_eq!(meant(0, 19), Ok(Places::Two(0, 19)));
+        assert_eq!(meant(0, 20), Err(Reason::Places));
+        assert_eq!(meant(7, 7), Err(Reason::Places));
+        assert_eq!(meant(8, 7), Err(Reason::Places));
+        assert_eq!(meant(NONE, NONE), Err(Reason::Places));
+        assert_eq!(meant(NONE, 0), Err(Reason::Places));
+    }
+
+    #[test]
+    fn places_of_a_span_card() {
+        let meant = |one, two| meant(Kind::Span, one, two);
+        assert_eq!(meant(0, 0), Ok(Places::Span(0, 0)));
+        assert_eq!(meant(0, 7), Ok(Places::Span(0, 7)));
+        assert_eq!(meant(0, 8), Err(Reason::Places));
+        assert_eq!(meant(12, 19), Ok(Places::Span(12, 19)));
+        assert_eq!(meant(13, 20), Err(Reason::Places));
+        assert_eq!(meant(20, 20), Err(Reason::Places));
+        assert_eq!(meant(8, 7), Err(Reason::Places));
+        assert_eq!(meant(0, NONE), Err(Reason::Places));
+        assert_eq!(meant(NONE, 0), Err(Reason::Places));
+        assert_eq!(meant(NONE, NONE), Err(Reason::Places));
+    }
+
+    #[test]
+    fn a_word_is_below_four_to_the_l_and_comes_first() {
+        let word_on = |l, word| {
+            let profile = Profile {
+                kind: Kind::Span,
+                l,
+                m: 1,
+            };
+            let stored = Stored {
+                word,
+                one: 0,
+                two: 0,
+            };
+            stored.entry(&profile).map(|entry| entry.word)
+        };
+        assert_eq!(word_on(2, 15), Ok(15));
+        assert_eq!(word_on(2, 16), Err(Reason::Word));
+        assert_eq!(word_on(12, 16_777_215), Ok(16_777_215));
+        assert_eq!(word_on(12, 16_777_216), Err(Reason::Word));
+        assert_eq!(word_on(12, u32::MAX), Err(Reason::Word));
+
+        let profile = Profile {
+            kind: Kind::Span,
+            l: 2,
+            m: 1,
+        };
+        let both_broken = Stored {
+            word: 16,
+            one: 1,
+            two: 0,
+        };
+        assert_eq!(both_broken.entry(&profile), Err(Reason::Word));
+    }
+}
