@@ -99,7 +99,8 @@ module _ (f : ℕ → List Test) (n i : ℕ) where
       → first (inTurn f (i + 1) (n - (i + 1))) a ≡ first (inTurn f i (n - i)) a
   turn-holds a h e = sym (rw (in-turn-more h) (first-holds (inTurn f (i + 1) (n - (i + 1))) a (f i) e))
 
-  pub turn-refused : {A : Type 0} (a : A) {q p : ℕ} → i < n → first (f i) sound ≡ refused q p → first (inTurn f i (n - i)) a ≡ refused q p
+  pub turn-refused : {A : Type 0} (a : A) {q p : ℕ} → i < n → first (f i) sound ≡ refused q p
+      → first (inTurn f i (n - i)) a ≡ refused q p
   turn-refused a h e = rw (in-turn-more h) (first-refused (inTurn f (i + 1) (n - (i + 1))) a (f i) e)
 
   pub turns-end : {A : Type 0} (a : A) → n ≤ i → first (inTurn f i (n - i)) a ≡ given a

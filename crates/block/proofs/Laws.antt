@@ -55,7 +55,8 @@ module _ (card : List ℕ) (k : ℕ) where
   absent h = first-fail _ _ _ _ _ (lt-leb _ _ h)
 
   -- of one that is, the answer is the block's own
-  pub present : {A : Type 0} (a : A) → blockBytes * k + blockBytes ≤ length card → first (fetchTests card k) a ≡ first (blockTests (blockAt card k) k) a
+  pub present : {A : Type 0} (a : A) → blockBytes * k + blockBytes ≤ length card
+      → first (fetchTests card k) a ≡ first (blockTests (blockAt card k) k) a
   unfolding fetchTests
   present a h = first-pass _ _ _ _ _ (le-leb _ _ h)
 
@@ -121,7 +122,8 @@ module _ (card : List ℕ) (k : ℕ) where
   pub empty-refused : (fetchOf card k ≡ []) ↔ (first (fetchTests card k) sound ≡ given sound → ⊥)
   empty-refused = (λ e. fetch-none (ap length e), λ h. go h (first (fetchTests card k) sound) refl)
     where
-      go : (first (fetchTests card k) sound ≡ given sound → ⊥) → (r : Answer Sound) → first (fetchTests card k) sound ≡ r → fetchOf card k ≡ []
+      go : (first (fetchTests card k) sound ≡ given sound → ⊥) → (r : Answer Sound) → first (fetchTests card k) sound ≡ r
+          → fetchOf card k ≡ []
       go h (given sound) q = absurd (h q)
       go h (refused n p) q = fetch-refused q
 
@@ -151,5 +153,6 @@ module _ (card : List ℕ) (k : ℕ) where
         ∙ sym (first-stops more (blockTests (blockAt card k) k) (λ e. fetch-none z (present sound there ∙ e)))
 
     -- where it is not the later tests answer
-    pub fetched : {A : Type 0} (a : A) → (length (fetchOf card k) ≡ 0 → ⊥) → first (blockTests (blockAt card k) k ++ more) a ≡ first more a
+    pub fetched : {A : Type 0} (a : A) → (length (fetchOf card k) ≡ 0 → ⊥)
+        → first (blockTests (blockAt card k) k ++ more) a ≡ first more a
     fetched a s = first-holds more a (blockTests (blockAt card k) k) (sym (present sound there) ∙ fetch-some s)

@@ -56,22 +56,29 @@ stepped-one (NotStepped n) (NotStepped k) q = ap NotStepped (refusal-one n k (cc
 -- ---- the operations
 
 module _ (κs : Lfts 1) where
-  pub admit-one : (a : Dens κs admit.ps) (r r′ : resT admit.r κs .Denot) (e e′ : AtExit (endedOf 1 admit.ps admit.r) κs)
+  pub admit-one : (a : Dens κs admit.ps) (r r′ : resT admit.r κs .Denot)
+      (e e′ : AtExit (endedOf 1 admit.ps admit.r) κs)
       → admit-reads.Post κs a r e → admit-reads.Post κs a r′ e′ → r ≡ r′
   admit-one a r r′ e e′ p q = admitted-one r r′ (p ∙ sym q)
 
-  pub fetch-entry-one : (a : Dens κs fetch-entry.ps) (r r′ : resT fetch-entry.r κs .Denot) (e e′ : AtExit (endedOf 1 fetch-entry.ps fetch-entry.r) κs)
+  pub fetch-entry-one : (a : Dens κs fetch-entry.ps) (r r′ : resT fetch-entry.r κs .Denot)
+      (e e′ : AtExit (endedOf 1 fetch-entry.ps fetch-entry.r) κs)
       → fetch-entry-reads.Post κs a r e → fetch-entry-reads.Post κs a r′ e′ → r ≡ r′
   fetch-entry-one a r r′ e e′ p q = fetched-one r r′ (p ∙ sym q)
 
-  pub step-one : (a : Dens κs step.ps) (r r′ : resT step.r κs .Denot) (e e′ : AtExit (endedOf 1 step.ps step.r) κs)
+  pub step-one : (a : Dens κs step.ps) (r r′ : resT step.r κs .Denot)
+      (e e′ : AtExit (endedOf 1 step.ps step.r) κs)
       → step-reads.Post κs a r e → step-reads.Post κs a r′ e′ → r ≡ r′
   step-one a r r′ e e′ p q = stepped-one r r′ (p ∙ sym q)
 
 module _ (κs : Lfts 4) where
-  pub admit-into-one : (a : Dens κs admit-into.ps) (r r′ : resT admit-into.r κs .Denot) (e e′ : AtExit (endedOf 4 admit-into.ps admit-into.r) κs)
+  pub admit-into-one : (a : Dens κs admit-into.ps) (r r′ : resT admit-into.r κs .Denot)
+      (e e′ : AtExit (endedOf 4 admit-into.ps admit-into.r) κs)
       → admit-into-reads.Post κs a r e → admit-into-reads.Post κs a r′ e′
-      → (r ≡ r′) × (now (e .1 .0) ≡ now (e′ .1 .0)) × (now (e .1 .1 .0) ≡ now (e′ .1 .1 .0)) × (now (e .1 .1 .1 .0) ≡ now (e′ .1 .1 .1 .0))
+      → (r ≡ r′)
+      × (now (e .1 .0) ≡ now (e′ .1 .0))
+      × (now (e .1 .1 .0) ≡ now (e′ .1 .1 .0))
+      × (now (e .1 .1 .1 .0) ≡ now (e′ .1 .1 .1 .0))
   admit-into-one a r r′ e e′ p q = (
     admitted-one r r′ (p .answer ∙ sym (q .answer)),
     p .in-words ∙ sym (q .in-words),

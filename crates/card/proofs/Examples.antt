@@ -32,6 +32,13 @@ s1 =
     headOf 1 2 2 4 0 9 233
     ++ (bytesOf 1 0 2 ++ (bytesOf 4 1 3 ++ (bytesOf 2 0 2 ++ (bytesOf 8 1 3 ++ (replicate 476 0 ++ (1 ∷ 0 ∷ 28 ∷ 28 ∷ []))))))
 
+-- admitting, with all that it rests on open to computation
+unfoldable admitting : List ℕ → Answer Format
+unfolding headOf s1 admission readingOrder headTests fieldTests laterTests slotsTests first inTurn
+    blockTests blockAt checks sumsOf indexOf twoAt fourAt formOf formatOf headSpare slotsSpare
+    slotAt entryTests placesHold spanHolds pairHolds
+admitting card = admission mostEntries card
+
 -- cards, and what admitting each answers; a head alone that passes all its own tests gets 9
 unfoldable pub admissions : List (List ℕ × Answer Format)
 admissions =
@@ -51,7 +58,7 @@ admissions =
 
 -- "l 2 and 12 pass, 1 and 13 give 6; m 1 and 504 pass, 0 and 505 give 7"
 pub admissions-right : map (λ r. admission mostEntries (r .0)) admissions ≡ map (λ r. r .1) admissions
-unfolding headOf s1 admission readingOrder headTests fieldTests laterTests slotsTests first inTurn blockTests blockAt checks sumsOf indexOf twoAt fourAt formOf formatOf headSpare slotsSpare slotAt entryTests placesHold spanHolds pairHolds admissions
+unfolding admitting admissions
 admissions-right = refl
 
 -- the steps of S1: its entries from 0, its end, and the end from any head beyond
@@ -64,10 +71,10 @@ pub s1-steps : map (stepping mostEntries s1) (0 ∷ 1 ∷ 2 ∷ 3 ∷ 4 ∷ 1000
     ∷ given end
     ∷ []
     )
-unfolding headOf s1 admission readingOrder headTests fieldTests laterTests slotsTests first inTurn blockTests blockAt checks sumsOf indexOf twoAt fourAt formOf formatOf headSpare slotsSpare slotAt entryTests placesHold spanHolds pairHolds stepping nextAt entryAt slotOf entryOf placesOf
+unfolding admitting stepping nextAt entryAt slotOf entryOf placesOf
 s1-steps = refl
 
 -- an entry, and one that is not there
 pub s1-entries : map (entryFetch mostEntries s1) (2 ∷ 4 ∷ []) ≡ (given (record { word = 2; places = Span 0 2 }) ∷ refused Absent 0 ∷ [])
-unfolding headOf s1 admission readingOrder headTests fieldTests laterTests slotsTests first inTurn blockTests blockAt checks sumsOf indexOf twoAt fourAt formOf formatOf headSpare slotsSpare slotAt entryTests placesHold spanHolds pairHolds entryFetch entryAt slotOf entryOf placesOf
+unfolding admitting entryFetch entryAt slotOf entryOf placesOf
 s1-entries = refl

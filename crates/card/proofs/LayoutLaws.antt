@@ -46,6 +46,7 @@ pub entry-there : (m e size : ℕ) → e < m → size ≡ sizeOf m → blockByte
 entry-there m e size h s = omega arith
 
 -- what an entry is, by its slot
-pub entry-is : (card : List ℕ) (e : ℕ) {kind : ℕ} {s : Slot} → kind ≡ toldBy card .kind → s ≡ slotOf card e → entryOf kind s ≡ entryAt card e
+pub entry-is : (card : List ℕ) (e : ℕ) {kind : ℕ} {s : Slot} → kind ≡ toldBy card .kind → s ≡ slotOf card e
+    → entryOf kind s ≡ entryAt card e
 unfolding entryAt
 entry-is card e k h = cc

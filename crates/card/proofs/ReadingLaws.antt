@@ -72,7 +72,8 @@ module _ (limit : ℕ) (card : List ℕ) where
     head-unfetched z =
         unfetched card 0 (omega arith) (fieldTests limit (blockAt card 0)) z ∙ sym (first-pass _ _ _ _ _ (le-leb _ _ there))
 
-    pub head-fetched : (length (fetchOf card 0) ≡ 0 → ⊥) → first (fieldTests limit (blockAt card 0)) sound ≡ first (headTests limit card) sound
+    pub head-fetched : (length (fetchOf card 0) ≡ 0 → ⊥)
+        → first (fieldTests limit (blockAt card 0)) sound ≡ first (headTests limit card) sound
     unfolding headTests
     head-fetched s =
         sym (first-pass _ _ _ _ _ (le-leb _ _ there) ∙ fetched card 0 (omega arith) (fieldTests limit (blockAt card 0)) sound s)

@@ -17,7 +17,8 @@ use Rattle.card.proofs.FetchingLaws.{Admits, admission-admits, step-mor
 -- from the head `at` the steps give these entries, one after the other, and then the end
 pub data Lists (limit : ℕ) (card : List ℕ) : ℕ → List Entry → Type 0 where
   ends : {at : ℕ} → stepping limit card at ≡ given end → Lists limit card at []
-  goes : {at next : ℕ} {e : Entry} {es : List Entry} → stepping limit card at ≡ given (more e next) → Lists limit card next es → Lists limit card at (e ∷ es)
+  goes : {at next : ℕ} {e : Entry} {es : List Entry} → stepping limit card at ≡ given (more e next) → Lists limit card next es
+      → Lists limit card at (e ∷ es)
 
 module _ (limit : ℕ) (card : List ℕ) where
   module _ {f : Format} (has : Admits limit card f) where
@@ -25,7 +26,9 @@ module _ (limit : ℕ) (card : List ℕ) where
     lists-from : (n k : ℕ) → k + n ≡ f .m → Lists limit card k (row (entryAt card) k n)
     unfolding row
     lists-from zero k h = ends (step-end limit card has k (omega arith))
-    lists-from (suc n) k h = goes {es = row (entryAt card) (suc k) n} (step-more limit card has k (omega arith)) (rw (add-one k) (lists-from n (suc k) (omega arith)))
+    lists-from (suc n) k h =
+        goes {es = row (entryAt card) (suc k) n} (step-more limit card has k (omega arith))
+        (rw (add-one k) (lists-from n (suc k) (omega arith)))
 
   -- "From head 0": all m entries, in order
   pub lists-all : {f : Format} → admission limit card ≡ given f → Lists limit card 0 (row (entryAt card) 0 (f .m))

@@ -42,7 +42,10 @@ fn fill(card: &[u8], m: usize, words: &mut [u32], ones: &mut [u16], twos: &mut [
 // The kind, l and m of a card, with its words and places in the first m slots of the lent lists; or the reader's refusal, or 12 where a
 // list is too short, and then no slot differs.
 pub fn admit_into(card: &[u8], words: &mut [u32], ones: &mut [u16], twos: &mut [u16]) -> Admitted
-    ensures { λ r. ⌜ Listed mostEntries (now (card .entry)) (now (words .entry)) (now (ones .entry)) (now (twos .entry)) r (now (words .exit)) (now (ones .exit)) (now (twos .exit)) ⌝ }
+    ensures { λ r. ⌜
+        Listed mostEntries (now (card .entry)) (now (words .entry)) (now (ones .entry)) (now (twos .entry))
+        r (now (words .exit)) (now (ones .exit)) (now (twos .exit))
+        ⌝ }
 {
     match crate::admit(card) {
         Admitted::Card(f) => {

@@ -109,7 +109,8 @@ fn slots_hold(part: &[u8], f: Format, e: usize, n: usize) -> Held
 
 // Block k, which is not block 0: it holds, its entries do, and its spare bytes are zero.
 fn later_holds(card: &[u8], f: Format, k: usize) -> Held
-    requires { ⌜ (f .l ≤ mostLength) × (f .m ≤ mostEntries) × (1 ≤ k) × (k ≤ entryBlocks (f .m)) × (blockBytes * k + blockBytes ≤ length (now card)) ⌝ }
+    requires { ⌜ (f .l ≤ mostLength) × (f .m ≤ mostEntries) ⌝ }
+    requires { ⌜ (1 ≤ k) × (k ≤ entryBlocks (f .m)) × (blockBytes * k + blockBytes ≤ length (now card)) ⌝ }
     ensures { λ r. ⌜ saysHeld r ≡ first (laterTests f (now (card .entry)) k) sound ⌝ }
 {
     let part = block::fetch(card, k);

@@ -15,7 +15,9 @@ part-requires : tie.Need-part-requires
 part-requires c κs = search needs
 
 block-holds-requires : tie.Need-block-holds-requires
-block-holds-requires c κs = let start = c .before .before .before .args in rw (c .part .ensures .0) (block-length (start .card .now) (start .k) (omega arith))
+block-holds-requires c κs =
+    let start = c .before .before .before .args in
+    rw (c .part .ensures .0) (block-length (start .card .now) (start .k) (omega arith))
 
 returns-2 : tie.Need-returns-2
 returns-2 c =

@@ -21,8 +21,9 @@ enum-known-r c = search needs
 
 returns : tie.Need-returns
 returns c =
-    let holds = c .before in
-    ap given (c .told-by .ensures) ∙ sym (admission-given _ _ (told-holds (holds .before .before .card-holds .ensures) (holds .enum-told .given .1)))
+    let told = c .before in
+    let holds = told-holds (told .before .before .card-holds .ensures) (told .enum-told .given .1) in
+    ap given (c .told-by .ensures) ∙ sym (admission-given _ _ holds)
 
 returns-2 : tie.Need-returns-2
 returns-2 c = sym (admission-refused _ _ (told-refused (c .before .before .before .card-holds .ensures) (c .before .r .given .1)))

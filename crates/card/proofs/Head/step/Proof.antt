@@ -41,7 +41,9 @@ enum-known-r c = search needs
 returns : tie.Need-returns
 returns c =
     let within = c .before in
-    ap (λ (e : Entry). given (more e (start (within .before .before .before) .args .self .at + 1))) (c .entry-at .ensures) ∙ sym (step-more _ _ (has (within .before .before .before)) _ (within .if1 .taken))
+    let admitted = within .before .before .before in
+    ap (λ (e : Entry). given (more e (start admitted .args .self .at + 1))) (c .entry-at .ensures)
+    ∙ sym (step-more _ _ (has admitted) _ (within .if1 .taken))
 
 returns-2 : tie.Need-returns-2
 returns-2 c = sym (step-end _ _ (has (c .before .before .before)) _ (c .if1 .left))

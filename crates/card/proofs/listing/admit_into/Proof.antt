@@ -65,8 +65,9 @@ returns c =
 
 returns-2 : tie.Need-returns-2
 returns-2 c =
-    let told = c .before .before in
-    listed-no-room _ _ _ _ _ (told-admitted _ _ (told .before .before .before .admit .ensures) (told .before .f .given .1)) (sym (c .before .has-room .ensures) ∙ c .if1 .left)
+    let admitted = c .before .before .before in
+    let has = told-admitted _ _ (admitted .before .before .admit .ensures) (admitted .f .given .1) in
+    listed-no-room _ _ _ _ _ has (sym (c .before .has-room .ensures) ∙ c .if1 .left)
 
 returns-3 : tie.Need-returns-3
 returns-3 c = listed-refused _ _ _ _ _ (told-not-admitted _ _ (c .before .before .before .admit .ensures) (c .before .r .given .1))

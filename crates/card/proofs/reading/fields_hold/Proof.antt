@@ -10,34 +10,39 @@ use Rattle.card.proofs.ReadingLaws.{failed, passed, form-wrong, kind-wr
 use Rattle.card.proofs.reading.fields_hold.Statement.{statement}
 use Rattle.card.proofs.reading.fields_hold.Tie as tie
 
--- ---- the places where a test has been passed, from the last one back
+-- ---- the places where a test has been passed, and what it says there
 
-abbrev past-form : tie.Else1 → tie.Start
-past-form c = c .before .before .before
+module _ (c : tie.Else1) where
+  abbrev start : tie.Start
+  start = c .before .before .before
 
-abbrev past-kind : tie.Else2 → tie.Else1
-past-kind c = c .before .before
+  abbrev told : start .args .f ≡ formatOf (start .args .head .now)
+  told = start .pre .1
 
-abbrev past-letters : tie.Else3 → tie.Else2
-past-letters c = c .before .before
+  form-ok : formOf (start .args .head .now) ≡ 1
+  unfolding formOf
+  form-ok = c .if1 .left
 
-abbrev past-count : tie.Else4 → tie.Else3
-past-count c = c .before .before
+module _ (c : tie.Else2) where
+  abbrev past-form : tie.Else1
+  past-form = c .before .before
 
--- ---- what a passed test says
+  kind-ok : isKind (formatOf (start past-form .args .head .now) .kind) ≡ true
+  kind-ok = passed (rw (told past-form) at (c .before .is-kind .ensures)) (c .if2 .left)
 
-form-ok : (c : tie.Else1) → formOf (past-form c .args .head .now) ≡ 1
-unfolding formOf
-form-ok c = c .if1 .left
+module _ (c : tie.Else3) where
+  abbrev past-kind : tie.Else2
+  past-kind = c .before .before
 
-kind-ok : (c : tie.Else2) → isKind (formatOf (past-form (past-kind c) .args .head .now) .kind) ≡ true
-kind-ok c = passed (rw (past-form (past-kind c) .pre .1) at (c .before .is-kind .ensures)) (c .if2 .left)
+  letters-ok : isWithin leastLength mostLength (formatOf (start (past-form past-kind) .args .head .now) .l) ≡ true
+  letters-ok = passed (rw (told (past-form past-kind)) at (c .before .is-within .ensures)) (c .if3 .left)
 
-letters-ok : (c : tie.Else3) → isWithin leastLength mostLength (formatOf (past-form (past-kind (past-letters c)) .args .head .now) .l) ≡ true
-letters-ok c = passed (rw (past-form (past-kind (past-letters c)) .pre .1) at (c .before .is-within .ensures)) (c .if3 .left)
+module _ (c : tie.Else4) where
+  abbrev past-letters : tie.Else3
+  past-letters = c .before .before
 
-count-ok : (c : tie.Else4) → isWithin 1 mostEntries (formatOf (past-form (past-kind (past-letters (past-count c))) .args .head .now) .m) ≡ true
-count-ok c = passed (rw (past-form (past-kind (past-letters (past-count c))) .pre .1) at (c .before .is-within2 .ensures)) (c .if4 .left)
+  count-ok : isWithin 1 mostEntries (formatOf (start (past-form (past-kind past-letters)) .args .head .now) .m) ≡ true
+  count-ok = passed (rw (told (past-form (past-kind past-letters))) at (c .before .is-within2 .ensures)) (c .if4 .left)
 
 -- ---- the needs
 
@@ -54,7 +59,8 @@ is-kind-requires c κs = search needs
 returns-2 : tie.Need-returns-2
 returns-2 c =
     let at = c .before .before in
-    sym (kind-wrong _ _ (form-ok at) (failed (rw (past-form at .pre .1) at (c .before .is-kind .ensures)) (c .if2 .taken)))
+    let wrong = failed (rw (told at) at (c .before .is-kind .ensures)) (c .if2 .taken) in
+    sym (kind-wrong _ _ (form-ok at) wrong)
 
 is-within-requires : tie.Need-is-within-requires
 is-within-requires c κs = search needs
@@ -62,7 +68,8 @@ is-within-requires c κs = search needs
 returns-3 : tie.Need-returns-3
 returns-3 c =
     let at = c .before .before in
-    sym (length-wrong _ _ (form-ok (past-kind at)) (kind-ok at) (failed (rw (past-form (past-kind at) .pre .1) at (c .before .is-within .ensures)) (c .if3 .taken)))
+    let wrong = failed (rw (told (past-form at)) at (c .before .is-within .ensures)) (c .if3 .taken) in
+    sym (length-wrong _ _ (form-ok (past-form at)) (kind-ok at) wrong)
 
 is-within-requires-2 : tie.Need-is-within-requires-2
 is-within-requires-2 c κs = search needs
@@ -70,8 +77,9 @@ is-within-requires-2 c κs = search needs
 returns-4 : tie.Need-returns-4
 returns-4 c =
     let at = c .before .before in
-    let start = past-form (past-kind (past-letters at)) in
-    sym (count-wrong _ _ (form-ok (past-kind (past-letters at))) (kind-ok (past-letters at)) (letters-ok at) (failed (rw (start .pre .1) at (c .before .is-within2 .ensures)) (c .if4 .taken)))
+    let kinds = past-kind at in
+    let wrong = failed (rw (told (past-form kinds)) at (c .before .is-within2 .ensures)) (c .if4 .taken) in
+    sym (count-wrong _ _ (form-ok (past-form kinds)) (kind-ok kinds) (letters-ok at) wrong)
 
 head-spare-requires : tie.Need-head-spare-requires
 head-spare-requires c κs = search needs
@@ -79,16 +87,18 @@ head-spare-requires c κs = search needs
 returns-5 : tie.Need-returns-5
 returns-5 c =
     let at = c .before .before in
-    let third = past-count at in
-    let second = past-letters third in
-    sym (fields-sound _ _ (form-ok (past-kind second)) (kind-ok second) (letters-ok third) (count-ok at) (sym (c .before .head-spare .ensures) ∙ c .if5 .taken))
+    let letters = past-letters at in
+    let kinds = past-kind letters in
+    let spare = sym (c .before .head-spare .ensures) ∙ c .if5 .taken in
+    sym (fields-sound _ _ (form-ok (past-form kinds)) (kind-ok kinds) (letters-ok letters) (count-ok at) spare)
 
 returns-6 : tie.Need-returns-6
 returns-6 c =
     let at = c .before .before in
-    let third = past-count at in
-    let second = past-letters third in
-    sym (not-spare _ _ (form-ok (past-kind second)) (kind-ok second) (letters-ok third) (count-ok at) (sym (c .before .head-spare .ensures) ∙ c .if5 .left))
+    let letters = past-letters at in
+    let kinds = past-kind letters in
+    let spare = sym (c .before .head-spare .ensures) ∙ c .if5 .left in
+    sym (not-spare _ _ (form-ok (past-form kinds)) (kind-ok kinds) (letters-ok letters) (count-ok at) spare)
 
 pub fields-hold-spec : {M : Type 1} → statement M
 fields-hold-spec =

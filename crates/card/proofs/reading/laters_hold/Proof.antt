@@ -43,7 +43,8 @@ returns : tie.Need-returns Inv-loop μ-loop
 returns c =
     let asked = c .before .before .before in
     let turn = asked .before in
-    sym (turn-refused _ _ _ sound (omega arith) (told-refused (asked .later-holds .ensures) (c .before .r .given .1))) ∙ turn .before .loop .inv .left
+    let refused = told-refused (asked .later-holds .ensures) (c .before .r .given .1) in
+    sym (turn-refused _ _ _ sound (omega arith) refused) ∙ turn .before .loop .inv .left
 
 enum-told : tie.Need-enum-told Inv-loop μ-loop
 enum-told c = search needs
@@ -58,10 +59,11 @@ loop-again : tie.Need-loop-again Inv-loop μ-loop
 loop-again c =
     let asked = c .before .before in
     let turn = asked .before in
+    let holds = told-holds (asked .later-holds .ensures) (c .enum-told .given .1) in
     record {
       begun = search needs;
       within = search needs;
-      left = turn-holds _ _ _ sound (omega arith) (told-holds (asked .later-holds .ensures) (c .enum-told .given .1)) ∙ turn .before .loop .inv .left;
+      left = turn-holds _ _ _ sound (omega arith) holds ∙ turn .before .loop .inv .left;
     }
 
 returns-2 : tie.Need-returns-2 Inv-loop μ-loop

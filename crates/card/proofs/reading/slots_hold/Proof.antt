@@ -45,7 +45,12 @@ module _ (c : tie.After-entry-holds Inv-loop μ-loop) where
   abbrev turn : tie.In-loop Inv-loop μ-loop
   turn = c .before .before
 
-  said : saysHeld (c .entry-holds .result) ≡ first (slotTests (turn .before .before .before .args .part .now) (turn .before .before .before .args .f) (turn .before .before .before .args .e) (turn .before .loop .j)) sound
+  abbrev start : tie.Start Inv-loop μ-loop
+  start = turn .before .before .before
+
+  said :
+      saysHeld (c .entry-holds .result)
+      ≡ first (slotTests (start .args .part .now) (start .args .f) (start .args .e) (turn .before .loop .j)) sound
   said = rw (c .before .slot-at .ensures) at (c .entry-holds .ensures)
 
 returns : tie.Need-returns Inv-loop μ-loop
