@@ -1,8 +1,8 @@
 -- The laws of `first` and `inTurn`, by which every crate above meets an order of tests. No contract cites this file. Assumes nothing.
 use mathlib.Core.Path.{_≡_, refl, sym, ap, _∙_}
-use mathlib.Core.Bool.{Bool, true, false, cond}
+use mathlib.Core.Bool.{Bool, true, false}
 use mathlib.Core.List.{List, [], _∷_, _++_}
-use Prim.Native.Nat.{ℕ, zero, suc, _+_, _-_, _≤_, _<_}
+use Prim.Native.Nat.{ℕ, suc, _+_, _-_, _≤_, _<_}
 use native.Mathlib.Numerals.{add-one}
 use native.Mathlib.Omega.{arith}
 use Rattle.answers.specs.declared.Refusal.{Refusal}
@@ -59,13 +59,6 @@ module _ {A : Type 0} (ys : List Test) (a : A) where
   first-both (test true n p ∷ xs) b e = first-both xs b e
   first-both (test false n p ∷ xs) b e = let z : _≡_ {A = ℕ} 0 1 = cc in absurd (omega arith)
 
--- tests that do not all hold answer, whatever comes after them
-pub first-stops : (ys xs : List Test) → (first xs sound ≡ given sound → ⊥) → first (xs ++ ys) sound ≡ first xs sound
-unfolding first
-first-stops ys [] stop = absurd (stop refl)
-first-stops ys (test true n p ∷ xs) stop = first-stops ys xs stop
-first-stops ys (test false n p ∷ xs) stop = refl
-
 -- what is given is the value
 pub first-value : {A : Type 0} (xs : List Test) (a b : A) → first xs a ≡ given b → a ≡ b
 unfolding first
@@ -107,17 +100,23 @@ module _ (f : ℕ → List Test) (n i : ℕ) where
   unfolding first inTurn
   turns-end a h = let e : n - i ≡ 0 = omega arith in rw e
 
--- ---- the enum
+-- ---- enums that say an answer
 
-pub refusal-one : (r s : Refusal) → r .number ≡ s .number → r .place ≡ s .place → r ≡ s
-refusal-one r s h e = λ i. record { number = h i; place = e i }
+-- an enum that can be had back from what it says: two that say the same are one
+pub says-one : {E T : Type 0} (says : E → T) (back : T → E) → ((r : E) → back (says r) ≡ r) → (r s : E) → says r ≡ says s → r ≡ s
+says-one says back had r s e = sym (had r) ∙ ap back e ∙ had s
 
--- two answers of `Held` that say the same are one
+heldBack : Answer Sound → Held
+heldBack (given sound) = Holds
+heldBack (refused n p) = Refused (record { number = n; place = p })
+
+held-back : (h : Held) → heldBack (saysHeld h) ≡ h
+unfolding heldBack
+held-back Holds = refl
+held-back (Refused r) = refl
+
 pub held-one : (h k : Held) → saysHeld h ≡ saysHeld k → h ≡ k
-held-one Holds Holds e = refl
-held-one Holds (Refused r) e = let z : _≡_ {A = ℕ} 0 1 = cc in absurd (omega arith)
-held-one (Refused r) Holds e = let z : _≡_ {A = ℕ} 0 1 = cc in absurd (omega arith)
-held-one (Refused r) (Refused s) e = ap Refused (refusal-one r s (cc) (cc))
+held-one = says-one saysHeld heldBack held-back
 
 -- what an answer of `Held` says of the tests that it speaks for
 module _ {t : Answer Sound} {h : Held} (e : saysHeld h ≡ t) where

@@ -7,6 +7,14 @@ use lib.ListN.{length, getD}
 use Rattle.answers.specs.Row.{row}
 
 module _ {A : Type 0} (f : ℕ → A) where
+  pub row-none : (k : ℕ) → row f k 0 ≡ []
+  unfolding row
+  row-none k = refl
+
+  pub row-first : (k n : ℕ) → row f k (suc n) ≡ f k ∷ row f (suc k) n
+  unfolding row
+  row-first k n = refl
+
   pub length-row : (k n : ℕ) → length (row f k n) ≡ n
   unfolding row
   length-row k zero = refl

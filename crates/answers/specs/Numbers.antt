@@ -49,6 +49,10 @@ Places = 11
 abbrev pub Room : ℕ
 Room = 12
 
+-- "the writer's three lists differ in length"
+abbrev pub Lists : ℕ
+Lists = 13
+
 -- "no such block or entry"
 abbrev pub Absent : ℕ
 Absent = 14

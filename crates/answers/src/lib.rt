@@ -36,4 +36,6 @@ pub const PLACES: usize = 11;
 
 pub const ROOM: usize = 12;
 
+pub const LISTS: usize = 13;
+
 pub const ABSENT: usize = 14;

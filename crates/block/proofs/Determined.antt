@@ -1,5 +1,5 @@
--- Each public contract determines the outcome: two results that both meet it at the same input are equal. `Post` is the contract as it
--- is read from the source. Assumes nothing.
+-- Each public contract determines the outcome: two results that both meet it at the same input are equal. `Post` is the contract as it is
+-- read from the source. Assumes nothing.
 use mathlib.Core.Path.{_≡_, sym, _∙_}
 use contract.Lifetimes.{Lfts}
 use denote.Ref.{now}
@@ -10,6 +10,12 @@ use Rattle.block.proofs.companion.Kinds as companion
 use Rattle.block.proofs.companion.Reads as companion-reads
 use Rattle.block.proofs.fetch.Kinds as fetch
 use Rattle.block.proofs.fetch.Reads as fetch-reads
+use Rattle.block.proofs.part.Kinds as part
+use Rattle.block.proofs.part.Reads as part-reads
+use Rattle.block.proofs.two_at.Kinds as two-at
+use Rattle.block.proofs.two_at.Reads as two-at-reads
+use Rattle.block.proofs.four_at.Kinds as four-at
+use Rattle.block.proofs.four_at.Reads as four-at-reads
 
 module _ (κs : Lfts 1) where
   -- the companion's answer
@@ -21,3 +27,17 @@ module _ (κs : Lfts 1) where
   pub fetch-one : (a : Dens κs fetch.ps) (r r′ : resT fetch.r κs .Denot) (e e′ : AtExit (endedOf 1 fetch.ps fetch.r) κs)
       → fetch-reads.Post κs a r e → fetch-reads.Post κs a r′ e′ → (now r ≡ now r′) × (r .ptr ≡ r′ .ptr)
   fetch-one a r r′ e e′ p q = (p .0 ∙ sym (q .0), p .1 ∙ sym (q .1))
+
+  -- a part, whether it holds or not
+  pub part-one : (a : Dens κs part.ps) (r r′ : resT part.r κs .Denot) (e e′ : AtExit (endedOf 1 part.ps part.r) κs)
+      → part-reads.Post κs a r e → part-reads.Post κs a r′ e′ → (now r ≡ now r′) × (r .ptr ≡ r′ .ptr)
+  part-one a r r′ e e′ p q = (p .0 ∙ sym (q .0), p .1 ∙ sym (q .1))
+
+  -- numbers in bytes
+  pub two-at-one : (a : Dens κs two-at.ps) (r r′ : resT two-at.r κs .Denot) (e e′ : AtExit (endedOf 1 two-at.ps two-at.r) κs)
+      → two-at-reads.Post κs a r e → two-at-reads.Post κs a r′ e′ → r ≡ r′
+  two-at-one a r r′ e e′ p q = p ∙ sym q
+
+  pub four-at-one : (a : Dens κs four-at.ps) (r r′ : resT four-at.r κs .Denot) (e e′ : AtExit (endedOf 1 four-at.ps four-at.r) κs)
+      → four-at-reads.Post κs a r e → four-at-reads.Post κs a r′ e′ → r ≡ r′
+  four-at-one a r r′ e e′ p q = p ∙ sym q

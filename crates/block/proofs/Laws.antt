@@ -1,21 +1,18 @@
 -- The laws of the blocks that this crate's proofs and the crates above cite. No contract cites this file. Assumes nothing.
 use mathlib.Core.Path.{_≡_, refl, sym, ap, _∙_}
 use mathlib.Core.Logic.{_↔_}
-use mathlib.Core.Bool.{Bool, true, false, cond, _&&_}
+use mathlib.Core.Bool.{true, false}
 use mathlib.Core.List.{List, [], _∷_, _++_}
 use Prim.Native.Nat.{ℕ, _+_, _*_, _-_, _≤_, _<_}
 use native.Mathlib.Nat.{add-sub-cancel-left}
 use native.Mathlib.Omega.{arith}
 use lib.ListN.{length, getD, take, drop, length-take, length-drop}
-use lib.Seq.{getD-take, getD-drop}
-use lib.Dec.{leb, eqb}
+use lib.Dec.{eqb}
 use borrow.Author.Tests.{le-leb, lt-leb, leb-true, eq-eqb, ne-eqb}
-use Rattle.answers.specs.declared.Held.{Held}
 use Rattle.answers.specs.Numbers.{Check, Index, Absent}
-use Rattle.answers.specs.Answer.{Answer, given, refused, Sound, sound, Test, test, first, saysHeld}
-use Rattle.answers.proofs.Laws.{first-pass, first-fail, first-passed, first-holds, first-stops, first-given-any, first-refused-any}
+use Rattle.answers.specs.Answer.{Answer, given, refused, Sound, sound, Test, test, first}
+use Rattle.answers.proofs.Laws.{first-pass, first-fail, first-last, first-passed, first-holds, first-refused, first-given-any, first-refused-any}
 use Rattle.block.specs.declared.Sums.{Sums}
-use Rattle.block.specs.Bytes.{twoAt, fourAt}
 use Rattle.block.specs.Check.{sumsOf, checks, checkAt}
 use Rattle.block.specs.Block.{blockBytes, blockAt, indexOf, blockTests, fetchTests, partOf, fetchOf, placeOf, startOf, offsetOf}
 
@@ -43,8 +40,10 @@ module _ (b : List ℕ) (k : ℕ) where
   block-elsewhere h i = first-pass _ _ _ _ _ h ∙ first-fail _ _ _ _ _ (ne-eqb _ _ i)
 
   pub block-sound : checks b ≡ true → indexOf b ≡ k → first (blockTests b k) sound ≡ given sound
-  unfolding blockTests first
-  block-sound h i = rw (h, eq-eqb (indexOf b) k i)
+  unfolding blockTests
+  block-sound h i =
+      first-pass (checks b) Check k (test (eqb (indexOf b) k) Index k ∷ []) sound h
+      ∙ first-last (eqb (indexOf b) k) Index k sound (eq-eqb (indexOf b) k i)
 
 -- ---- a block of a card
 
@@ -69,11 +68,6 @@ module _ (card : List ℕ) (k : ℕ) where
   pub block-length : blockBytes * k + blockBytes ≤ length card → length (blockAt card k) ≡ blockBytes
   unfolding blockAt
   block-length h = simp (length-take, length-drop) (omega arith)
-
-  -- a byte of a block is a byte of the card
-  pub block-byte : (i : ℕ) → i < blockBytes → getD (blockAt card k) i 0 ≡ getD card (blockBytes * k + i) 0
-  unfolding blockAt
-  block-byte i h = rw (getD-take, getD-drop)
 
   -- the part from 512 k to 512 k + 512, as the code takes it
   pub part-is : take (blockBytes * k + blockBytes - blockBytes * k) (drop (blockBytes * k) card) ≡ blockAt card k
@@ -137,22 +131,18 @@ module _ (card : List ℕ) (k : ℕ) where
       pub part-some : length (fetchOf card k) ≡ 0 → ⊥
       part-some z = some (ap length e ∙ z)
 
-      pub part-block : part ≡ blockAt card k
-      part-block = e ∙ fetch-holds (fetch-some part-some)
-
       pub part-length : length part ≡ blockBytes
       part-length = ap length e ∙ fetch-length (fetch-some part-some)
 
   -- ---- the tests of a block that is all there, before other tests `more`
 
   module _ (there : blockBytes * k + blockBytes ≤ length card) (more : List Test) where
-    -- where the part is empty the companion's answer is the answer
-    pub unfetched : length (fetchOf card k) ≡ 0 → first (fetchTests card k) sound ≡ first (blockTests (blockAt card k) k ++ more) sound
-    unfetched z =
-        present sound there
-        ∙ sym (first-stops more (blockTests (blockAt card k) k) (λ e. fetch-none z (present sound there ∙ e)))
+    -- where the companion refuses, its refusal is the answer
+    pub block-refused : {A : Type 0} (a : A) {n p : ℕ} → first (fetchTests card k) sound ≡ refused n p
+        → first (blockTests (blockAt card k) k ++ more) a ≡ refused n p
+    block-refused a e = first-refused more a (blockTests (blockAt card k) k) (sym (present sound there) ∙ e)
 
-    -- where it is not the later tests answer
-    pub fetched : {A : Type 0} (a : A) → (length (fetchOf card k) ≡ 0 → ⊥)
+    -- where it holds the later tests answer
+    pub block-held : {A : Type 0} (a : A) → first (fetchTests card k) sound ≡ given sound
         → first (blockTests (blockAt card k) k ++ more) a ≡ first more a
-    fetched a s = first-holds more a (blockTests (blockAt card k) k) (sym (present sound there) ∙ fetch-some s)
+    block-held a e = first-holds more a (blockTests (blockAt card k) k) (sym (present sound there) ∙ e)

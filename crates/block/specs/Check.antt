@@ -10,9 +10,13 @@ use lib.ListN.{getD, take}
 use lib.Dec.{eqb}
 use Rattle.block.specs.declared.Sums.{Sums}
 
+-- "mod 255"
+abbrev pub modulus : ℕ
+modulus = 255
+
 -- "a becomes (a + byte) mod 255, then b becomes (b + a) mod 255"
 abbrev pub stepOf : Sums → ℕ → Sums
-stepOf s x = record { a = (s .a + x) % 255; b = (s .b + (s .a + x) % 255) % 255 }
+stepOf s x = record { a = (s .a + x) % modulus; b = (s .b + (s .a + x) % modulus) % modulus }
 
 -- "Start with a = b = 0; for each of bytes … in order"
 unfoldable pub sumsOf : List ℕ → Sums

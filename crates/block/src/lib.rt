@@ -6,7 +6,7 @@ ghost use lib.ListN.{length};
 ghost use Rattle.answers.specs.Answer.{first, sound, saysHeld};
 ghost use Rattle.block.specs.Bytes.{twoAt, fourAt};
 ghost use Rattle.block.specs.Check.{stepOf, sumsOf, checks};
-ghost use Rattle.block.specs.Block.{blockBytes, blockAt, indexOf, blockTests, fetchTests, partOf, fetchOf, placeOf, startOf};
+ghost use Rattle.block.specs.Block.{blockBytes, blockAt, blockTests, fetchTests, fetchOf, placeOf, startOf};
 use answers::Held;
 use answers::Refusal;
 
@@ -16,6 +16,9 @@ pub const BLOCK: usize = 512;
 pub const INDEX_AT: usize = 508;
 // Where a block's check stands, after the bytes that it is of.
 const CHECK_AT: usize = 510;
+
+// What the sums are taken modulo.
+const MODULUS: u32 = 255;
 
 // What the check bytes hold.
 pub struct Sums {
@@ -52,8 +55,8 @@ pub fn four_at(part: &[u8], at: usize) -> u32
 fn step(s: Sums, x: u8) -> Sums
     ensures { λ r. ⌜ r ≡ stepOf s x ⌝ }
 {
-    let a = (s.a as u32 + x as u32) % 255;
-    let b = (s.b as u32 + a) % 255;
+    let a = (s.a as u32 + x as u32) % MODULUS;
+    let b = (s.b as u32 + a) % MODULUS;
     Sums {
         a: a as u8,
         b: b as u8,

@@ -1,10 +1,8 @@
 -- The laws of admitting, of entry fetch and of a head's step that this crate's proofs and the crates above cite. Assumes nothing.
 use mathlib.Core.Path.{_≡_, refl, sym, ap, _∙_}
-use mathlib.Core.List.{List, [], _∷_, _++_}
+use mathlib.Core.List.{List}
 use Prim.Native.Nat.{ℕ, _+_, _*_, _/_, _≤_, _<_}
-use native.Mathlib.Omega.{arith}
 use lib.ListN.{length}
-use lib.Dec.{eqb, ltb}
 use borrow.Author.Tests.{lt-ltb, le-ltb, eqb-true}
 use Rattle.answers.specs.declared.Refusal.{Refusal}
 use Rattle.answers.specs.Numbers.{Absent}
@@ -14,9 +12,9 @@ use Rattle.block.specs.Block.{blockBytes}
 use Rattle.entries.specs.declared.Format.{Format}
 use Rattle.card.specs.declared.Admitted.{Admitted}
 use Rattle.card.specs.declared.Admitted.the-variants.{Card, Refused}
-use Rattle.card.specs.Layout.{perBlock, sizeOf}
+use Rattle.card.specs.Layout.{toldBy, perBlock, sizeOf}
 use Rattle.card.specs.Reading.{headTests, readingOrder}
-use Rattle.card.specs.Fetching.{toldBy, admission, saysAdmitted, entryAt, entryFetch, more, end, nextAt, stepping}
+use Rattle.card.specs.Fetching.{admission, saysAdmitted, entryAt, entryFetch, more, end, nextAt, stepping}
 use Rattle.card.proofs.LayoutLaws.{entry-there}
 use Rattle.card.proofs.ReadingLaws.{HeadHolds, head-has}
 

@@ -1,20 +1,18 @@
 -- The laws of a card's layout that this crate's proofs cite. No contract cites this file. Assumes nothing.
-use mathlib.Core.Path.{_≡_, refl, sym, ap, _∙_}
-use mathlib.Core.Bool.{true, false, _&&_}
-use mathlib.Core.List.{List, [], _∷_}
-use Prim.Native.Nat.{ℕ, suc, _+_, _*_, _-_, _/_, _%_, _≤_, _<_}
+use mathlib.Core.Path.{_≡_}
+use mathlib.Core.Bool.{true, false}
+use mathlib.Core.List.{List}
+use Prim.Native.Nat.{ℕ, _+_, _*_, _/_, _≤_, _<_}
 use native.Mathlib.Numerals.{add-one}
 use native.Mathlib.Omega.{arith}
 use lib.ListN.{length, getD, take, drop, drop-of-length-le}
 use lib.Seq.{drop-cons}
-use lib.Dec.{eqb}
 use borrow.Author.Tests.{eq-eqb, ne-eqb}
 use Rattle.block.specs.Block.{blockBytes, indexAt}
-use Rattle.entries.specs.Slot.{entryBytes}
 use Rattle.entries.specs.declared.Slot.{Slot}
 use Rattle.entries.specs.Entry.{entryOf}
-use Rattle.card.specs.Layout.{isZeros, headSpare, slotsSpare, perBlock, entryBlocks, sizeOf, slotOf}
-use Rattle.card.specs.Fetching.{toldBy, entryAt}
+use Rattle.card.specs.Layout.{toldBy, isZeros, headSpare, perBlock, sizeOf, slotOf}
+use Rattle.card.specs.Fetching.{entryAt}
 
 -- ---- zeros, looked at from the front
 

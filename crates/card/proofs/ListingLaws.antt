@@ -1,29 +1,27 @@
 -- The laws of admitting into lent lists that this crate's proofs cite. No contract cites this file. Assumes nothing.
-use mathlib.Core.Path.{_≡_, refl, sym, ap, _∙_}
-use mathlib.Core.Bool.{Bool, true, false, _&&_, and-false}
+use mathlib.Core.Path.{_≡_, sym, ap, _∙_}
+use mathlib.Core.Bool.{true, false, _&&_}
 use mathlib.Core.List.{List, [], _∷_, _++_}
 use Prim.Native.Nat.{ℕ, suc, _+_, _≤_, _<_}
 use native.Mathlib.Numerals.{add-one}
 use native.Mathlib.Omega.{arith}
-use lib.ListN.{length, drop, set, length-append, length-drop}
+use lib.ListN.{length, drop, set}
 use lib.Seq.{drop-cons, set-at, append-snoc}
 use lib.Dec.{leb}
 use borrow.Author.Tests.{le-leb, lt-leb, leb-true}
 use Rattle.answers.specs.declared.Refusal.{Refusal}
 use Rattle.answers.specs.Numbers.{Room}
-use Rattle.answers.specs.Answer.{given, refused, sound, first}
+use Rattle.answers.specs.Answer.{given, refused, sound}
 use Rattle.answers.specs.Row.{row}
 use Rattle.answers.proofs.Laws.{first-fail, first-last, first-holds, first-refused, first-refused-any}
-use Rattle.answers.proofs.RowLaws.{length-row, row-more}
+use Rattle.answers.proofs.RowLaws.{length-row, row-none, row-more}
 use Rattle.answers.proofs.Tests.{both}
 use Rattle.entries.specs.declared.Format.{Format}
-use Rattle.entries.specs.declared.Slot.{Slot}
-use Rattle.card.specs.declared.Admitted.{Admitted}
 use Rattle.card.specs.declared.Admitted.the-variants.{Card, Refused}
-use Rattle.card.specs.Layout.{slotOf}
+use Rattle.card.specs.Layout.{toldBy, slotOf}
 use Rattle.card.specs.Reading.{readingOrder}
-use Rattle.card.specs.Fetching.{toldBy, admission, saysAdmitted}
-use Rattle.card.specs.Listing.{hasRoom, listTests, listing, filled, listed, Listed}
+use Rattle.card.specs.Fetching.{admission}
+use Rattle.card.specs.Listing.{hasRoom, listTests, listing, filled, Listed}
 use Rattle.card.proofs.FetchingLaws.{Admits}
 
 -- ---- a list that is filled from the front
@@ -38,31 +36,23 @@ row-set f before e h =
     ∙ set-at (row f 0 e) _ _ (f e) e (length-row f 0 e)
     ∙ sym (ap (λ (l : List ℕ). l ++ drop (suc e) before) longer ∙ append-snoc (row f 0 e) (f e) (drop (suc e) before))
 
-module _ (number : Slot → ℕ) (card before : List ℕ) where
-  pub filled-none : before ≡ filled number card 0 before
-  unfolding filled row
-  filled-none = refl
-
-  pub filled-more : (e : ℕ) → e < length before
-      → set (filled number card e before) e (number (slotOf card e)) ≡ filled number card (e + 1) before
+module _ (numberOf : ℕ → ℕ) (before : List ℕ) where
+  pub filled-none : before ≡ filled numberOf 0 before
   unfolding filled
-  filled-more e h = rw add-one (row-set (λ i. number (slotOf card i)) before e h)
+  filled-none = rw (row-none numberOf 0)
 
-  -- the turn that reads entry e
-  pub filled-turn : (e : ℕ) {l : List ℕ} {s : Slot} → e < length before → l ≡ filled number card e before → s ≡ slotOf card e
-      → set l e (number s) ≡ filled number card (e + 1) before
-  filled-turn e {l} {s} h el es =
-      ap (λ (x : List ℕ). set x e (number s)) el
-      ∙ ap (λ (x : Slot). set (filled number card e before) e (number x)) es
-      ∙ filled-more e h
-
-  -- all entries are read
-  pub filled-whole : (e m : ℕ) {l : List ℕ} → e ≡ m → l ≡ filled number card e before → l ≡ filled number card m before
-  filled-whole e m h el = el ∙ ap (λ (n : ℕ). filled number card n before) h
-
-  pub filled-length : (m : ℕ) → m ≤ length before → length (filled number card m before) ≡ length before
+  -- the turn that writes the number of entry e
+  pub filled-turn : (e : ℕ) {l : List ℕ} {x : ℕ} → e < length before → l ≡ filled numberOf e before → x ≡ numberOf e
+      → set l e x ≡ filled numberOf (e + 1) before
   unfolding filled
-  filled-length m h = simp (length-append, length-drop, length-row) (omega arith)
+  filled-turn e {l} {x} h el ex =
+      ap (λ (xs : List ℕ). set xs e x) el
+      ∙ ap (λ (y : ℕ). set (row numberOf 0 e ++ drop e before) e y) ex
+      ∙ rw add-one (row-set numberOf before e h)
+
+  -- all entries are written
+  pub filled-whole : (e m : ℕ) {l : List ℕ} → e ≡ m → l ≡ filled numberOf e before → l ≡ filled numberOf m before
+  filled-whole e m h el = el ∙ ap (λ (n : ℕ). filled numberOf n before) h
 
 -- ---- room
 
@@ -115,9 +105,9 @@ module _ (limit : ℕ) (card words ones twos : List ℕ) where
     listing-given h = first-holds _ _ _ (has .order) ∙ first-last _ _ _ _ (rw (has .told) at h) ∙ ap given (sym (has .told))
 
     pub listed-filled : {words′ ones′ twos′ : List ℕ} → hasRoom (f .m) (length words) (length ones) (length twos) ≡ true
-        → words′ ≡ filled (λ s. s .word) card (f .m) words
-        → ones′ ≡ filled (λ s. s .one) card (f .m) ones
-        → twos′ ≡ filled (λ s. s .two) card (f .m) twos
+        → words′ ≡ filled (λ e. slotOf card e .word) (f .m) words
+        → ones′ ≡ filled (λ e. slotOf card e .one) (f .m) ones
+        → twos′ ≡ filled (λ e. slotOf card e .two) (f .m) twos
         → Listed limit card words ones twos (Card f) words′ ones′ twos′
     listed-filled h w o t =
         let e = listing-given h in

@@ -1,24 +1,23 @@
 -- The laws of the reading order that this crate's proofs cite: what each test that fails or holds says of the whole. No contract cites
 -- this file. Assumes nothing.
-use mathlib.Core.Path.{_≡_, refl, sym, ap, _∙_}
-use mathlib.Core.Bool.{Bool, true, false, not, _&&_}
-use mathlib.Core.List.{List, [], _∷_, _++_}
+use mathlib.Core.Path.{_≡_, sym, _∙_}
+use mathlib.Core.Bool.{Bool, true, false, not}
+use mathlib.Core.List.{List, [], _∷_}
 use Prim.Native.Nat.{ℕ, _+_, _*_, _≤_, _<_}
 use native.Mathlib.Omega.{arith}
 use lib.ListN.{length}
-use lib.Dec.{leb, eqb}
-use borrow.Author.Tests.{le-leb, lt-leb, leb-true, eq-eqb, ne-eqb, eqb-true, not-true, not-false}
+use lib.Dec.{leb}
+use borrow.Author.Tests.{le-leb, lt-leb, leb-true, eq-eqb, ne-eqb, not-true, not-false}
 use Rattle.answers.specs.Numbers.{Short, Form, Kind, Length, Count, Spare, Size}
-use Rattle.answers.specs.Answer.{given, refused, sound, Test, test, first, inTurn}
-use Rattle.answers.proofs.Laws.{first-pass, first-fail, first-last, first-passed, first-holds, first-refused, first-both, first-given-any}
+use Rattle.answers.specs.Answer.{given, refused, sound, test, first, inTurn}
+use Rattle.answers.proofs.Laws.{first-pass, first-fail, first-last, first-passed, first-holds, first-refused, first-both}
 use Rattle.answers.proofs.Tests.{both}
-use Rattle.block.specs.Block.{blockBytes, blockAt, blockTests, fetchTests, fetchOf}
-use Rattle.block.proofs.Laws.{unfetched, fetched}
+use Rattle.block.specs.Block.{blockBytes, blockAt, blockTests, fetchTests}
+use Rattle.block.proofs.Laws.{block-refused, block-held}
 use Rattle.entries.specs.declared.Format.{Format}
 use Rattle.entries.specs.Fault.{leastLength, mostLength}
-use Rattle.card.specs.Layout.{formOf, formatOf, entryBlocks, sizeOf, entriesBefore, entriesIn, headSpare, slotsSpare}
-use Rattle.card.specs.Reading.{isWithin, isKind, fieldTests, headTests, slotsTests, laterTests, readingOrder}
-use Rattle.card.specs.Fetching.{toldBy}
+use Rattle.card.specs.Layout.{formOf, formatOf, toldBy, entryBlocks, sizeOf, entriesBefore, entriesIn, headSpare, slotsSpare}
+use Rattle.card.specs.Reading.{theForm, leastEntries, isWithin, isKind, fieldTests, headTests, slotsTests, laterTests, readingOrder}
 
 -- ---- a test in the code, `!t`, and what it says of what t stands for
 
@@ -31,33 +30,44 @@ passed {t} e h = sym e ∙ not-false t h
 -- ---- the fields of block 0
 
 module _ (limit : ℕ) (b : List ℕ) where
-  pub form-wrong : (formOf b ≡ 1 → ⊥) → first (fieldTests limit b) sound ≡ refused Form 0
-  unfolding fieldTests first
-  form-wrong n = rw (ne-eqb (formOf b) 1 n)
+  pub form-wrong : (formOf b ≡ theForm → ⊥) → first (fieldTests limit b) sound ≡ refused Form 0
+  unfolding fieldTests
+  form-wrong n = first-fail _ _ _ _ _ (ne-eqb _ _ n)
 
-  module _ (form : formOf b ≡ 1) where
+  module _ (form : formOf b ≡ theForm) where
     pub kind-wrong : isKind (formatOf b .kind) ≡ false → first (fieldTests limit b) sound ≡ refused Kind 0
-    unfolding fieldTests first
-    kind-wrong h = rw (eq-eqb (formOf b) 1 form, h)
+    unfolding fieldTests
+    kind-wrong h = first-pass _ _ _ _ _ (eq-eqb _ _ form) ∙ first-fail _ _ _ _ _ h
 
     module _ (kind : isKind (formatOf b .kind) ≡ true) where
       pub length-wrong : isWithin leastLength mostLength (formatOf b .l) ≡ false → first (fieldTests limit b) sound ≡ refused Length 0
-      unfolding fieldTests first
-      length-wrong h = rw (eq-eqb (formOf b) 1 form, kind, h)
+      unfolding fieldTests
+      length-wrong h = first-pass _ _ _ _ _ (eq-eqb _ _ form) ∙ first-pass _ _ _ _ _ kind ∙ first-fail _ _ _ _ _ h
 
       module _ (letters : isWithin leastLength mostLength (formatOf b .l) ≡ true) where
-        pub count-wrong : isWithin 1 limit (formatOf b .m) ≡ false → first (fieldTests limit b) sound ≡ refused Count 0
-        unfolding fieldTests first
-        count-wrong h = rw (eq-eqb (formOf b) 1 form, kind, letters, h)
+        pub count-wrong : isWithin leastEntries limit (formatOf b .m) ≡ false → first (fieldTests limit b) sound ≡ refused Count 0
+        unfolding fieldTests
+        count-wrong h =
+            first-pass _ _ _ _ _ (eq-eqb _ _ form)
+            ∙ first-pass _ _ _ _ _ kind
+            ∙ first-pass _ _ _ _ _ letters
+            ∙ first-fail _ _ _ _ _ h
 
-        module _ (count : isWithin 1 limit (formatOf b .m) ≡ true) where
+        module _ (count : isWithin leastEntries limit (formatOf b .m) ≡ true) where
+          -- all but the spare bytes are right
+          fields-right : first (fieldTests limit b) sound ≡ first (test (headSpare b) Spare 0 ∷ []) sound
+          unfolding fieldTests
+          fields-right =
+              first-pass _ _ _ _ _ (eq-eqb _ _ form)
+              ∙ first-pass _ _ _ _ _ kind
+              ∙ first-pass _ _ _ _ _ letters
+              ∙ first-pass _ _ _ _ _ count
+
           pub not-spare : headSpare b ≡ false → first (fieldTests limit b) sound ≡ refused Spare 0
-          unfolding fieldTests first
-          not-spare h = rw (eq-eqb (formOf b) 1 form, kind, letters, count, h)
+          not-spare h = fields-right ∙ first-fail _ _ _ _ _ h
 
           pub fields-sound : headSpare b ≡ true → first (fieldTests limit b) sound ≡ given sound
-          unfolding fieldTests first
-          fields-sound h = rw (eq-eqb (formOf b) 1 form, kind, letters, count, h)
+          fields-sound h = fields-right ∙ first-last _ _ _ _ h
 
 -- ---- 1, and block 0
 
@@ -67,38 +77,47 @@ module _ (limit : ℕ) (card : List ℕ) where
   too-short h = first-fail _ _ _ _ _ (lt-leb _ _ h)
 
   module _ (there : blockBytes ≤ length card) where
-    pub head-unfetched : length (fetchOf card 0) ≡ 0 → first (fetchTests card 0) sound ≡ first (headTests limit card) sound
+    pub head-refused : {n p : ℕ} → first (fetchTests card 0) sound ≡ refused n p → first (headTests limit card) sound ≡ refused n p
     unfolding headTests
-    head-unfetched z =
-        unfetched card 0 (omega arith) (fieldTests limit (blockAt card 0)) z ∙ sym (first-pass _ _ _ _ _ (le-leb _ _ there))
+    head-refused e = first-pass _ _ _ _ _ (le-leb _ _ there) ∙ block-refused card 0 (omega arith) _ sound e
 
-    pub head-fetched : (length (fetchOf card 0) ≡ 0 → ⊥)
+    pub head-held : first (fetchTests card 0) sound ≡ given sound
         → first (fieldTests limit (blockAt card 0)) sound ≡ first (headTests limit card) sound
     unfolding headTests
-    head-fetched s =
-        sym (first-pass _ _ _ _ _ (le-leb _ _ there) ∙ fetched card 0 (omega arith) (fieldTests limit (blockAt card 0)) sound s)
+    head-held e = sym (first-pass _ _ _ _ _ (le-leb _ _ there) ∙ block-held card 0 (omega arith) _ sound e)
 
 -- ---- a later block
 
-module _ (f : Format) (card : List ℕ) (k : ℕ) (there : blockBytes * k + blockBytes ≤ length card) where
-  pub later-unfetched : length (fetchOf card k) ≡ 0 → first (fetchTests card k) sound ≡ first (laterTests f card k) sound
-  unfolding laterTests
-  later-unfetched z = unfetched card k there _ z
+-- what the code hands on, and what it stands for
+module _ {b block : List ℕ} {n count : ℕ} (eb : b ≡ block) (en : n ≡ count) where
+  pub slots-same : (f : Format) {e before : ℕ} → e ≡ before → first (slotsTests f b e n) sound ≡ first (slotsTests f block before count) sound
+  slots-same f ee = cc
 
-  module _ (some : length (fetchOf card k) ≡ 0 → ⊥) where
-    pub later-refused : {n p : ℕ} → first (slotsTests f (blockAt card k) (entriesBefore k) (entriesIn (f .m) k)) sound ≡ refused n p
+  pub spare-same : slotsSpare b n ≡ slotsSpare block count
+  spare-same = cc
+
+module _ (f : Format) (card : List ℕ) (k : ℕ) (there : blockBytes * k + blockBytes ≤ length card) where
+  pub later-refused : {n p : ℕ} → first (fetchTests card k) sound ≡ refused n p → first (laterTests f card k) sound ≡ refused n p
+  unfolding laterTests
+  later-refused e = block-refused card k there _ sound e
+
+  module _ (held : first (fetchTests card k) sound ≡ given sound) where
+    pub slot-refused : {n p : ℕ} → first (slotsTests f (blockAt card k) (entriesBefore k) (entriesIn (f .m) k)) sound ≡ refused n p
         → first (laterTests f card k) sound ≡ refused n p
     unfolding laterTests
-    later-refused e = fetched card k there _ sound some ∙ first-refused _ _ _ e
+    slot-refused e = block-held card k there _ sound held ∙ first-refused _ _ _ e
 
     module _ (slots : first (slotsTests f (blockAt card k) (entriesBefore k) (entriesIn (f .m) k)) sound ≡ given sound) where
-      pub later-not-spare : slotsSpare (blockAt card k) (entriesIn (f .m) k) ≡ false → first (laterTests f card k) sound ≡ refused Spare k
+      -- all but the spare bytes are right
+      slots-right : first (laterTests f card k) sound ≡ first (test (slotsSpare (blockAt card k) (entriesIn (f .m) k)) Spare k ∷ []) sound
       unfolding laterTests
-      later-not-spare h = fetched card k there _ sound some ∙ first-holds _ _ _ slots ∙ first-fail _ _ _ _ _ h
+      slots-right = block-held card k there _ sound held ∙ first-holds _ _ _ slots
+
+      pub later-not-spare : slotsSpare (blockAt card k) (entriesIn (f .m) k) ≡ false → first (laterTests f card k) sound ≡ refused Spare k
+      later-not-spare h = slots-right ∙ first-fail _ _ _ _ _ h
 
       pub later-sound : slotsSpare (blockAt card k) (entriesIn (f .m) k) ≡ true → first (laterTests f card k) sound ≡ given sound
-      unfolding laterTests
-      later-sound h = fetched card k there _ sound some ∙ first-holds _ _ _ slots ∙ first-last _ _ _ _ h
+      later-sound h = slots-right ∙ first-last _ _ _ _ h
 
 -- ---- the whole order
 
@@ -126,7 +145,7 @@ within-both lo hi x e = let h = both (leb lo x) (leb x hi) e in (leb-true lo x (
 pub record HeadHolds (limit : ℕ) (card : List ℕ) : Type 0 where
   pub there : blockBytes ≤ length card
   pub letters : toldBy card .l ≤ mostLength
-  pub least : 1 ≤ toldBy card .m
+  pub least : leastEntries ≤ toldBy card .m
   pub most : toldBy card .m ≤ limit
 
 pub head-has : (limit : ℕ) (card : List ℕ) → first (headTests limit card) sound ≡ given sound → HeadHolds limit card
@@ -138,7 +157,7 @@ head-has limit card e =
     let kind = first-passed _ _ _ _ _ _ (form .1) in
     let letters = first-passed _ _ _ _ _ _ (kind .1) in
     let count = first-passed _ _ _ _ _ _ (letters .1) in
-    let m-in = within-both 1 limit _ (count .0) in
+    let m-in = within-both leastEntries limit _ (count .0) in
     record {
       there = leb-true _ _ (short .0);
       letters = within-both leastLength mostLength _ (letters .0) .1;

@@ -6,7 +6,6 @@ use mathlib.Core.List.{List, [], _∷_, _++_}
 use lib.Dec.{ltb}
 use Rattle.answers.specs.Numbers.{Absent}
 use Rattle.answers.specs.Answer.{Answer, given, refused, test, first}
-use Rattle.block.specs.Block.{blockAt}
 use Rattle.entries.specs.declared.Format.{Format}
 use Rattle.entries.specs.declared.Entry.{Entry}
 use Rattle.entries.specs.Entry.{entryOf}
@@ -16,13 +15,10 @@ use Rattle.card.specs.declared.EntryFetch.{EntryFetch}
 use Rattle.card.specs.declared.EntryFetch.the-variants.{Found, Refused as NotFound}
 use Rattle.card.specs.declared.Stepped.{Stepped}
 use Rattle.card.specs.declared.Stepped.the-variants.{More, End, Refused as NotStepped}
-use Rattle.card.specs.Layout.{formatOf, slotOf}
+use Rattle.card.specs.Layout.{toldBy, slotOf}
 use Rattle.card.specs.Reading.{readingOrder}
 
 -- "Admitting a card answers kind, l and m"
-abbrev pub toldBy : List ℕ → Format
-toldBy card = formatOf (blockAt card 0)
-
 unfoldable pub admission : ℕ → List ℕ → Answer Format
 admission limit card = first (readingOrder limit card) (toldBy card)
 

@@ -1,5 +1,6 @@
 -- Where things stand on a card (01, "The card, block by block").
 --   formOf b, formatOf b     == the form, and the kind, l and m, that block 0 says
+--   toldBy card              == the kind, l and m that a card says
 --   entryBlocks m            == how many blocks the entries take
 --   sizeOf m                 == the bytes of a card of m entries
 --   entriesIn m k            == how many entries stand in block k, which is not block 0
@@ -25,6 +26,10 @@ formOf b = getD b 0 0
 -- "byte 1 kind", "byte 2 l", "bytes 4–5 m"
 unfoldable pub formatOf : List ℕ → Format
 formatOf b = record { kind = getD b 1 0; l = getD b 2 0; m = twoAt b 4 }
+
+-- "Admitting a card answers kind, l and m", as its block 0 says them
+abbrev pub toldBy : List ℕ → Format
+toldBy card = formatOf (blockAt card 0)
 
 -- "up to 63 entries"
 abbrev pub perBlock : ℕ

@@ -10,11 +10,10 @@ use Rattle.answers.specs.Numbers.{Room}
 use Rattle.answers.specs.Answer.{Answer, given, refused, Test, test, first}
 use Rattle.answers.specs.Row.{row}
 use Rattle.entries.specs.declared.Format.{Format}
-use Rattle.entries.specs.declared.Slot.{Slot}
 use Rattle.card.specs.declared.Admitted.{Admitted}
-use Rattle.card.specs.Layout.{slotOf}
+use Rattle.card.specs.Layout.{toldBy, slotOf}
 use Rattle.card.specs.Reading.{readingOrder}
-use Rattle.card.specs.Fetching.{toldBy, saysAdmitted}
+use Rattle.card.specs.Fetching.{saysAdmitted}
 
 -- lists of these three lengths have room for m entries
 abbrev pub hasRoom : ℕ → ℕ → ℕ → ℕ → Bool
@@ -27,18 +26,18 @@ listTests limit card words ones twos =
 unfoldable pub listing : ℕ → List ℕ → List ℕ → List ℕ → List ℕ → Answer Format
 listing limit card words ones twos = first (listTests limit card words ones twos) (toldBy card)
 
--- a list that was `before`, with one number of each of the first m slots in turn at its start
-unfoldable pub filled : (Slot → ℕ) → List ℕ → ℕ → List ℕ → List ℕ
-filled number card m before = row (λ e. number (slotOf card e)) 0 m ++ drop m before
+-- a list that was `before`, with the numbers of the first m entries at its start
+unfoldable pub filled : (ℕ → ℕ) → ℕ → List ℕ → List ℕ
+filled numberOf m before = row numberOf 0 m ++ drop m before
 
 -- the list after the answer
-abbrev pub listed : (Slot → ℕ) → List ℕ → List ℕ → Answer Format → List ℕ
-listed number card before (given f) = filled number card (f .m) before
-listed number card before (refused n p) = before
+abbrev pub listed : (ℕ → ℕ) → List ℕ → Answer Format → List ℕ
+listed numberOf before (given f) = filled numberOf (f .m) before
+listed numberOf before (refused n p) = before
 
 -- the answer, and every slot of each list afterwards
 pub record Listed (limit : ℕ) (card words ones twos : List ℕ) (r : Admitted) (words′ ones′ twos′ : List ℕ) : Type 0 where
   pub answer : saysAdmitted r ≡ listing limit card words ones twos
-  pub in-words : words′ ≡ listed (λ s. s .word) card words (listing limit card words ones twos)
-  pub in-ones : ones′ ≡ listed (λ s. s .one) card ones (listing limit card words ones twos)
-  pub in-twos : twos′ ≡ listed (λ s. s .two) card twos (listing limit card words ones twos)
+  pub in-words : words′ ≡ listed (λ e. slotOf card e .word) words (listing limit card words ones twos)
+  pub in-ones : ones′ ≡ listed (λ e. slotOf card e .one) ones (listing limit card words ones twos)
+  pub in-twos : twos′ ≡ listed (λ e. slotOf card e .two) twos (listing limit card words ones twos)

@@ -12,9 +12,16 @@ use Rattle.block.specs.Block.{blockBytes, blockAt, blockTests}
 use Rattle.entries.specs.declared.Format.{Format}
 use Rattle.entries.specs.Slot.{slotAt}
 use Rattle.entries.specs.Fault.{pair, span, leastLength, mostLength, entryTests}
-use Rattle.card.specs.Layout.{formOf, formatOf, entryBlocks, sizeOf, entriesBefore, entriesIn, headSpare, slotsSpare}
+use Rattle.card.specs.Layout.{formOf, formatOf, toldBy, entryBlocks, sizeOf, entriesBefore, entriesIn, headSpare, slotsSpare}
+
+-- "form = 1"
+abbrev pub theForm : ℕ
+theForm = 1
 
 -- "A card has m entries, 1 ≤ m ≤ 504."
+abbrev pub leastEntries : ℕ
+leastEntries = 1
+
 abbrev pub mostEntries : ℕ
 mostEntries = 504
 
@@ -28,10 +35,10 @@ isKind kind = eqb kind pair || eqb kind span
 -- block 0: 4, 5, 6, 7, 8
 unfoldable pub fieldTests : ℕ → List ℕ → List Test
 fieldTests limit b =
-    test (eqb (formOf b) 1) Form 0
+    test (eqb (formOf b) theForm) Form 0
     ∷ test (isKind (formatOf b .kind)) Kind 0
     ∷ test (isWithin leastLength mostLength (formatOf b .l)) Length 0
-    ∷ test (isWithin 1 limit (formatOf b .m)) Count 0
+    ∷ test (isWithin leastEntries limit (formatOf b .m)) Count 0
     ∷ test (headSpare b) Spare 0
     ∷ []
 
@@ -53,7 +60,6 @@ laterTests f card k =
 
 unfoldable pub readingOrder : ℕ → List ℕ → List Test
 readingOrder limit card =
-    let f = formatOf (blockAt card 0) in
     headTests limit card
-    ++ (test (eqb (length card) (sizeOf (f .m))) Size 0
-    ∷ inTurn (laterTests f card) 1 (entryBlocks (f .m)))
+    ++ (test (eqb (length card) (sizeOf (toldBy card .m))) Size 0
+    ∷ inTurn (laterTests (toldBy card) card) 1 (entryBlocks (toldBy card .m)))

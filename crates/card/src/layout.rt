@@ -2,20 +2,17 @@
 ghost use mathlib.Core.Path.{_≡_};
 ghost use Prim.Native.Nat.{_+_, _*_, _/_, _≤_, _<_};
 ghost use lib.ListN.{length, drop};
-ghost use Rattle.block.specs.Block.{blockBytes, indexAt};
-ghost use Rattle.entries.specs.Slot.{entryBytes};
-ghost use Rattle.card.specs.Layout.{formatOf, perBlock, entryBlocks, sizeOf, entriesIn, slotOf, isZeros, headSpare, slotsSpare};
+ghost use Rattle.block.specs.Block.{blockBytes};
+ghost use Rattle.card.specs.Layout.{formatOf, toldBy, perBlock, entryBlocks, entriesBefore, entriesIn, slotOf, isZeros, headSpare, slotsSpare};
 ghost use Rattle.card.specs.Reading.{mostEntries};
-ghost use Rattle.card.specs.Fetching.{toldBy, entryAt};
+ghost use Rattle.card.specs.Fetching.{entryAt};
 use block::BLOCK;
 use entries::Entry;
 use entries::Format;
 use entries::Slot;
 
-// The most entries of a card.
-pub const MOST: usize = 504;
 // The entries of a full block.
-pub const PER_BLOCK: usize = 63;
+const PER_BLOCK: usize = 63;
 
 // The kind, l and m that block 0 says.
 pub fn format_of(head: &[u8]) -> Format
@@ -45,12 +42,20 @@ pub fn entry_blocks(m: usize) -> usize
     (m + (PER_BLOCK - 1)) / PER_BLOCK
 }
 
-// How many entries stand in block k, before which `before` entries stand.
+// How many entries stand before block k, which is not block 0.
+pub fn entries_before(k: usize) -> usize
+    requires { ⌜ (1 ≤ k) × (k ≤ mostEntries) ⌝ }
+    ensures { λ r. ⌜ r ≡ entriesBefore k ⌝ }
+{
+    PER_BLOCK * (k - 1)
+}
+
+// How many entries stand in block k, which is not block 0.
 pub fn entries_in(m: usize, k: usize) -> usize
     requires { ⌜ (1 ≤ k) × (k ≤ mostEntries) ⌝ }
     ensures { λ r. ⌜ r ≡ entriesIn m k ⌝ }
 {
-    let before = PER_BLOCK * (k - 1);
+    let before = entries_before(k);
     if m <= before {
         return 0;
     }

@@ -7,7 +7,6 @@ mod reading;
 ghost use mathlib.Core.Path.{_≡_};
 ghost use Rattle.card.specs.Reading.{mostEntries};
 ghost use Rattle.card.specs.Fetching.{admission, saysAdmitted, entryFetch, saysFetched, stepping, saysStepped};
-ghost use Rattle.card.specs.Listing.{Listed};
 use answers::Held;
 use answers::Refusal;
 use entries::Entry;

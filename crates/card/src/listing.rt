@@ -2,7 +2,7 @@
 ghost use mathlib.Core.Path.{_≡_};
 ghost use Prim.Native.Nat.{_≤_};
 ghost use lib.ListN.{length};
-ghost use Rattle.card.specs.Layout.{sizeOf};
+ghost use Rattle.card.specs.Layout.{sizeOf, slotOf};
 ghost use Rattle.card.specs.Reading.{mostEntries};
 ghost use Rattle.card.specs.Listing.{hasRoom, filled, Listed};
 use crate::Admitted;
@@ -25,9 +25,9 @@ fn has_room(m: usize, words: usize, ones: usize, twos: usize) -> bool
 fn fill(card: &[u8], m: usize, words: &mut [u32], ones: &mut [u16], twos: &mut [u16])
     requires { ⌜ (m ≤ mostEntries) × (sizeOf m ≤ length (now card)) ⌝ }
     requires { ⌜ (m ≤ length (now words)) × (m ≤ length (now ones)) × (m ≤ length (now twos)) ⌝ }
-    ensures { λ _. ⌜ now (words .exit) ≡ filled (λ s. s .word) (now (card .entry)) m (now (words .entry)) ⌝ }
-    ensures { λ _. ⌜ now (ones .exit) ≡ filled (λ s. s .one) (now (card .entry)) m (now (ones .entry)) ⌝ }
-    ensures { λ _. ⌜ now (twos .exit) ≡ filled (λ s. s .two) (now (card .entry)) m (now (twos .entry)) ⌝ }
+    ensures { λ _. ⌜ now (words .exit) ≡ filled (λ e. slotOf (now (card .entry)) e .word) m (now (words .entry)) ⌝ }
+    ensures { λ _. ⌜ now (ones .exit) ≡ filled (λ e. slotOf (now (card .entry)) e .one) m (now (ones .entry)) ⌝ }
+    ensures { λ _. ⌜ now (twos .exit) ≡ filled (λ e. slotOf (now (card .entry)) e .two) m (now (twos .entry)) ⌝ }
 {
     let mut e = 0;
     while e < m {

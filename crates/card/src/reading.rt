@@ -7,14 +7,18 @@ ghost use Rattle.block.specs.Block.{blockBytes};
 ghost use Rattle.entries.specs.Fault.{mostLength};
 ghost use Rattle.card.specs.Layout.{formatOf, perBlock, entryBlocks, sizeOf};
 ghost use Rattle.card.specs.Reading.{mostEntries, isWithin, isKind, fieldTests, headTests, slotsTests, laterTests, readingOrder};
-ghost use Rattle.card.specs.Fetching.{toldBy};
 use crate::layout;
-use crate::layout::MOST;
-use crate::layout::PER_BLOCK;
 use answers::Held;
 use answers::Refusal;
 use block::BLOCK;
 use entries::Format;
+
+// What a card's form must be.
+const THE_FORM: u8 = 1;
+// The least and the most entries of a card.
+const LEAST: usize = 1;
+
+const MOST: usize = 504;
 
 // Whether x is from lo up to hi, both included.
 fn is_within(lo: usize, hi: usize, x: usize) -> bool
@@ -41,7 +45,7 @@ fn fields_hold(head: &[u8], f: Format) -> Held
     requires { ⌜ (length (now head) ≡ blockBytes) × (f ≡ formatOf (now head)) ⌝ }
     ensures { λ r. ⌜ saysHeld r ≡ first (fieldTests mostEntries (now (head .entry))) sound ⌝ }
 {
-    if head[0] != 1 {
+    if head[0] != THE_FORM {
         return Held::Refused(Refusal {
             number: answers::FORM,
             place: 0,
@@ -59,7 +63,7 @@ fn fields_hold(head: &[u8], f: Format) -> Held
             place: 0,
         });
     }
-    if !is_within(1, MOST, f.m) {
+    if !is_within(LEAST, MOST, f.m) {
         return Held::Refused(Refusal {
             number: answers::COUNT,
             place: 0,
@@ -85,10 +89,10 @@ fn head_holds(card: &[u8]) -> Held
             place: 0,
         });
     }
-    let head = block::fetch(card, 0);
-    if head.len() == 0 {
-        return block::companion(card, 0);
+    if let Held::Refused(r) = block::companion(card, 0) {
+        return Held::Refused(r);
     }
+    let head = block::part(card, 0);
     fields_hold(head, layout::format_of(head))
 }
 
@@ -113,12 +117,12 @@ fn later_holds(card: &[u8], f: Format, k: usize) -> Held
     requires { ⌜ (1 ≤ k) × (k ≤ entryBlocks (f .m)) × (blockBytes * k + blockBytes ≤ length (now card)) ⌝ }
     ensures { λ r. ⌜ saysHeld r ≡ first (laterTests f (now (card .entry)) k) sound ⌝ }
 {
-    let part = block::fetch(card, k);
-    if part.len() == 0 {
-        return block::companion(card, k);
+    if let Held::Refused(r) = block::companion(card, k) {
+        return Held::Refused(r);
     }
+    let part = block::part(card, k);
     let n = layout::entries_in(f.m, k);
-    if let Held::Refused(r) = slots_hold(part, f, PER_BLOCK * (k - 1), n) {
+    if let Held::Refused(r) = slots_hold(part, f, layout::entries_before(k), n) {
         return Held::Refused(r);
     }
     if layout::slots_spare(part, n) {

@@ -67,13 +67,13 @@ unfolding entryTests placesHold spanHolds first
 no-places = refl
 
 -- "one place, two places, or a span", counted from 0
-pub one-place : placesOf pair 0 noPlace ≡ One 0
+pub first-place-alone : placesOf pair 0 noPlace ≡ One 0
 unfolding placesOf
-one-place = refl
+first-place-alone = refl
 
-pub two-places : placesOf pair 0 2 ≡ Two 0 2
+pub first-and-third : placesOf pair 0 2 ≡ Two 0 2
 unfolding placesOf
-two-places = refl
+first-and-third = refl
 
 pub span-of-one : placesOf span 2 2 ≡ Span 2 2
 unfolding placesOf

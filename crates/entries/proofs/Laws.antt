@@ -1,15 +1,16 @@
 -- The laws of an entry's faults and places that this crate's proofs and the crates above cite. No contract cites this file.
 -- Assumes nothing.
-use mathlib.Core.Path.{_≡_, refl, sym, ap, _∙_}
-use mathlib.Core.Bool.{Bool, true, false, cond, _&&_, _||_, and-false}
-use mathlib.Core.List.{List, [], _∷_}
-use Prim.Native.Nat.{ℕ, suc, _+_, _-_, _^_, _≤_, _<_}
+use mathlib.Core.Path.{_≡_, _∙_}
+use mathlib.Core.Bool.{true, false, _&&_, and-false}
+use mathlib.Core.List.{[], _∷_}
+use Prim.Native.Nat.{ℕ, _-_, _^_, _≤_, _<_}
 use native.Mathlib.Numerals.{add-one}
 use native.Mathlib.Omega.{arith}
-use lib.Dec.{leb, ltb, eqb}
-use borrow.Author.Tests.{lt-ltb, le-ltb, le-leb, lt-leb, ltb-true, ltb-false, eq-eqb, ne-eqb}
+use lib.Dec.{ltb}
+use borrow.Author.Tests.{lt-ltb, le-ltb, le-leb, lt-leb, ltb-true, eq-eqb, ne-eqb}
 use Rattle.answers.specs.Numbers.{Word, Places}
-use Rattle.answers.specs.Answer.{given, refused, sound, first}
+use Rattle.answers.specs.Answer.{given, refused, sound, test, first}
+use Rattle.answers.proofs.Laws.{first-pass, first-fail, first-last}
 use Rattle.entries.specs.declared.Format.{Format}
 use Rattle.entries.specs.declared.Slot.{Slot}
 use Rattle.entries.specs.declared.Places.the-variants.{One, Two, Span}
@@ -80,14 +81,18 @@ module _ (kind one two : ℕ) where
 
 module _ (f : Format) (e : ℕ) (s : Slot) where
   pub word-over : 4 ^ f .l ≤ s .word → first (entryTests f e s) sound ≡ refused Word e
-  unfolding entryTests first
-  word-over h = rw (le-ltb (s .word) (4 ^ f .l) h)
+  unfolding entryTests
+  word-over h = first-fail _ _ _ _ _ (le-ltb (s .word) (4 ^ f .l) h)
+
+  -- a word that fits leaves the test of the places
+  word-fits : s .word < 4 ^ f .l
+      → first (entryTests f e s) sound ≡ first (test (placesHold (f .kind) (f .m) (s .one) (s .two)) Places e ∷ []) sound
+  unfolding entryTests
+  word-fits h = first-pass _ _ _ _ _ (lt-ltb (s .word) (4 ^ f .l) h)
 
   module _ (fits : s .word < 4 ^ f .l) where
     pub places-wrong : placesHold (f .kind) (f .m) (s .one) (s .two) ≡ false → first (entryTests f e s) sound ≡ refused Places e
-    unfolding entryTests first
-    places-wrong h = rw (lt-ltb (s .word) (4 ^ f .l) fits, h)
+    places-wrong h = word-fits fits ∙ first-fail _ _ _ _ _ h
 
     pub entry-sound : placesHold (f .kind) (f .m) (s .one) (s .two) ≡ true → first (entryTests f e s) sound ≡ given sound
-    unfolding entryTests first
-    entry-sound h = rw (lt-ltb (s .word) (4 ^ f .l) fits, h)
+    entry-sound h = word-fits fits ∙ first-last _ _ _ _ h

@@ -1,5 +1,6 @@
--- `Laws` has what this crate's proofs and the crates above cite of an entry, `Allowed` what the places of a sound entry are, `Edges` the
--- scope's edges of the numbers.
+-- `Laws` has what this crate's proofs and the crates above cite of an entry, `Allowed` what the places of a sound entry are, `Determined`
+-- that each contract has one outcome, `Edges` the scope's edges of the numbers.
 pub mod Laws
 pub mod Allowed
+pub mod Determined
 pub mod Edges

@@ -24,7 +24,7 @@ const WIDEST: u16 = 8;
 // What stands for place two where there is no second place.
 const NO_PLACE: u16 = 65535;
 // How many words there are of 0, 1, 2, … letters.
-const WORDS: [u32; 13] = [
+const WORDS: [u32; MOST_LENGTH + 1] = [
     1,
     4,
     16,

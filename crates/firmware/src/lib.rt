@@ -1,5 +1,6 @@
 // The boundary to C: the operations of the block layer and of the card's reader as exported functions. A lent card goes in as a slice, and
-// a struct of numbers comes back. No function has a `requires`: each operation tests its own input.
+// a struct of numbers comes back. No function has a `requires`: each operation tests its own input. The names that C sees begin with the
+// project's.
 ghost use mathlib.Core.Path.{_≡_};
 ghost use Rattle.answers.specs.Answer.{first, sound};
 ghost use Rattle.block.specs.Block.{fetchTests};
@@ -14,17 +15,17 @@ use card::Stepped;
 use entries::Places;
 
 // The shapes of an entry's allowed places.
-const ONE: usize = 1;
+const SHAPE_ONE: usize = 1;
 
-const TWO: usize = 2;
+const SHAPE_TWO: usize = 2;
 
-const SPAN: usize = 3;
+const SHAPE_SPAN: usize = 3;
 
 // The allowed places of an entry as numbers: the shape, and the places that it has; the second is 0 where there is one place.
-pub struct Shape {
-    pub shape: usize,
-    pub first: usize,
-    pub second: usize,
+struct Shape {
+    shape: usize,
+    first: usize,
+    second: usize,
 }
 
 // What admitting answers. The number is 0 for a card that is admitted, with its kind, l and m; else it is the refusal's, with its place,
@@ -83,17 +84,17 @@ fn shape_of(places: Places) -> Shape
 {
     match places {
         Places::One(p) => Shape {
-            shape: ONE,
+            shape: SHAPE_ONE,
             first: p as usize,
             second: 0,
         },
         Places::Two(p, q) => Shape {
-            shape: TWO,
+            shape: SHAPE_TWO,
             first: p as usize,
             second: q as usize,
         },
         Places::Span(f, g) => Shape {
-            shape: SPAN,
+            shape: SHAPE_SPAN,
             first: f as usize,
             second: g as usize,
         },

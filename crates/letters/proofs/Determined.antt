@@ -1,33 +1,35 @@
 -- Each public contract determines the outcome: two results that both meet it at the same input are equal. `Post` is the contract as it
 -- is read from the source. Assumes nothing.
 use mathlib.Core.Path.{_≡_, refl, sym, ap, _∙_}
-use Prim.Native.Nat.{ℕ}
-use native.Mathlib.Omega.{arith}
 use contract.Lifetimes.{Lfts}
 use denote.Triple.Clauses.{AtExit}
 use borrow.Fn.Kinds.{Dens, resT, endedOf}
 use Rattle.letters.specs.declared.Code.{Code}
 use Rattle.letters.specs.declared.Code.the-variants.{Is, NoLetter}
-use Rattle.letters.specs.Letters.{saysCode}
+use Rattle.letters.specs.Letters.{Reading, code, noLetter, saysCode}
 use Rattle.letters.proofs.letter_of.Kinds as letter-of
 use Rattle.letters.proofs.letter_of.Reads as letter-of-reads
 use Rattle.letters.proofs.code_of.Kinds as code-of
 use Rattle.letters.proofs.code_of.Reads as code-of-reads
 
--- two answers of `Code` that say the same are one
-pub code-one : (r s : Code) → saysCode r ≡ saysCode s → r ≡ s
-code-one NoLetter NoLetter e = refl
-code-one NoLetter (Is c) e = let z : _≡_ {A = ℕ} 0 1 = cc in absurd (omega arith)
-code-one (Is c) NoLetter e = let z : _≡_ {A = ℕ} 0 1 = cc in absurd (omega arith)
-code-one (Is c) (Is d) e = ap Is (cc)
+-- the enum, had back from what it says
+codeBack : Reading → Code
+codeBack (code c) = Is c
+codeBack noLetter = NoLetter
+
+code-back : (r : Code) → codeBack (saysCode r) ≡ r
+unfolding codeBack
+code-back (Is c) = refl
+code-back NoLetter = refl
 
 module _ (κs : Lfts 0) where
   -- the letter
-  pub letter-of-one : (a : Dens κs letter-of.ps) (r r′ : resT letter-of.r κs .Denot) (e e′ : AtExit (endedOf 0 letter-of.ps letter-of.r) κs)
+  pub letter-of-one : (a : Dens κs letter-of.ps) (r r′ : resT letter-of.r κs .Denot)
+      (e e′ : AtExit (endedOf 0 letter-of.ps letter-of.r) κs)
       → letter-of-reads.Post κs a r e → letter-of-reads.Post κs a r′ e′ → r ≡ r′
   letter-of-one a r r′ e e′ p q = p ∙ sym q
 
   -- the code, or that there is none
   pub code-of-one : (a : Dens κs code-of.ps) (r r′ : resT code-of.r κs .Denot) (e e′ : AtExit (endedOf 0 code-of.ps code-of.r) κs)
       → code-of-reads.Post κs a r e → code-of-reads.Post κs a r′ e′ → r ≡ r′
-  code-of-one a r r′ e e′ p q = code-one r r′ (p ∙ sym q)
+  code-of-one a r r′ e e′ p q = sym (code-back r) ∙ ap codeBack (p ∙ sym q) ∙ code-back r′

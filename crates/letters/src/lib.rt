@@ -10,7 +10,7 @@ const LETTERS: [u8; CODES] = [b'A', b'C', b'G', b'T'];
 
 // What reading a byte answers: the code that it is the letter of, or that it is no letter.
 pub enum Code {
-    Is(u8),
+    Is(usize),
     NoLetter,
 }
 
@@ -29,7 +29,7 @@ pub fn code_of(byte: u8) -> Code
     let mut code = 0;
     while code < CODES {
         if LETTERS[code] == byte {
-            return Code::Is(code as u8);
+            return Code::Is(code);
         }
         code += 1;
     }

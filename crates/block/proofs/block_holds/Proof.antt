@@ -2,7 +2,7 @@
 use borrow.Author.Needs.{needs}
 use Rattle.block.specs.Block.{indexOf}
 use Rattle.block.proofs.Laws.{block-unchecked, block-elsewhere, block-sound}
-use mathlib.Core.Path.{sym, _∙_}
+use mathlib.Core.Path.{sym}
 use Rattle.block.proofs.block_holds.Statement.{statement}
 use Rattle.block.proofs.block_holds.Tie as tie
 

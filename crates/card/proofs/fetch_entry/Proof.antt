@@ -1,7 +1,7 @@
 -- `card::fetch_entry` meets its contract: the reader's refusal, or by the index.
 -- Assumes nothing.
 use borrow.Author.Needs.{needs}
-use mathlib.Core.Path.{_≡_, sym, ap, _∙_}
+use mathlib.Core.Path.{sym, ap, _∙_}
 use Rattle.answers.specs.Answer.{given}
 use Rattle.entries.specs.declared.Format.{Format}
 use Rattle.card.specs.Reading.{mostEntries}

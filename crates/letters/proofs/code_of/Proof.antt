@@ -21,9 +21,6 @@ loop-holds c = (search needs, from-start _)
 array-read-if1 : tie.Need-array-read-if1 Inv-loop μ-loop
 array-read-if1 c = search needs
 
-cast-t8 : tie.Need-cast-t8 Inv-loop μ-loop
-cast-t8 c = search needs
-
 returns : tie.Need-returns Inv-loop μ-loop
 unfolding letterOf letters
 returns c = let turn = c .before in sym (from-found _ _ (omega arith) (c .if1 .taken)) ∙ turn .before .loop .inv .1
@@ -51,7 +48,6 @@ code-of-spec =
     μ-loop
     loop-holds
     array-read-if1
-    cast-t8
     returns
     add-code
     loop-less

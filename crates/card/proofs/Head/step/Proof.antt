@@ -1,7 +1,7 @@
 -- `card::Head::step` meets its contract: the reader's refusal, or by where the head stands.
 -- Assumes nothing.
 use borrow.Author.Needs.{needs}
-use mathlib.Core.Path.{_≡_, sym, ap, _∙_}
+use mathlib.Core.Path.{sym, ap, _∙_}
 use Rattle.answers.specs.Answer.{given}
 use Rattle.entries.specs.declared.Entry.{Entry}
 use Rattle.entries.specs.declared.Format.{Format}

@@ -1,7 +1,7 @@
 -- `card::layout::is_zeros` meets its contract. The invariant: what is left is zeros exactly if all is. Assumes nothing.
 use borrow.Author.Needs.{needs}
 use Prim.Native.Nat.{_≤_, _-_}
-use mathlib.Core.Path.{_≡_, refl, sym, _∙_}
+use mathlib.Core.Path.{_≡_, refl, _∙_}
 use lib.ListN.{length, drop}
 use Rattle.card.specs.Layout.{isZeros}
 use Rattle.card.proofs.LayoutLaws.{zeros-turn, zeros-stop, zeros-end}

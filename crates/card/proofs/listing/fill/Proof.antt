@@ -1,11 +1,12 @@
 -- `card::listing::fill` meets its contract. The invariant: each list is filled with the entries that were read so far. Assumes nothing.
 use borrow.Author.Needs.{needs}
-use mathlib.Core.Path.{_≡_, sym, ap, _∙_}
+use mathlib.Core.Path.{_≡_, ap}
 use mathlib.Core.List.{List}
 use Prim.Native.Nat.{ℕ, _-_, _≤_}
 use native.Mathlib.Omega.{arith}
-use lib.ListN.{length, set}
+use lib.ListN.{length}
 use Rattle.entries.specs.declared.Slot.{Slot}
+use Rattle.card.specs.Layout.{slotOf}
 use Rattle.card.specs.Listing.{filled}
 use Rattle.card.proofs.ListingLaws.{filled-none, filled-turn, filled-whole}
 use Rattle.card.proofs.listing.fill.Statement.{statement}
@@ -14,9 +15,9 @@ use Rattle.card.proofs.listing.fill.Tie as tie
 -- the first e entries stand in the three lists
 record Reached (card : List ℕ) (m : ℕ) (words₀ ones₀ twos₀ words ones twos : List ℕ) (e : ℕ) : Type 0 where
   within : e ≤ m
-  in-words : words ≡ filled (λ s. s .word) card e words₀
-  in-ones : ones ≡ filled (λ s. s .one) card e ones₀
-  in-twos : twos ≡ filled (λ s. s .two) card e twos₀
+  in-words : words ≡ filled (λ i. slotOf card i .word) e words₀
+  in-ones : ones ≡ filled (λ i. slotOf card i .one) e ones₀
+  in-twos : twos ≡ filled (λ i. slotOf card i .two) e twos₀
   words-length : length words ≡ length words₀
   ones-length : length ones ≡ length ones₀
   twos-length : length twos ≡ length twos₀
@@ -31,9 +32,9 @@ loop-holds : tie.Need-loop-holds Inv-loop μ-loop
 loop-holds c =
     record {
       within = search needs;
-      in-words = filled-none _ _ _;
-      in-ones = filled-none _ _ _;
-      in-twos = filled-none _ _ _;
+      in-words = filled-none _ _;
+      in-ones = filled-none _ _;
+      in-twos = filled-none _ _;
       words-length = search needs;
       ones-length = search needs;
       twos-length = search needs;
@@ -71,9 +72,9 @@ loop-again c =
     let so-far = c .before .before .loop .inv in
     record {
       within = search needs;
-      in-words = filled-turn _ _ _ _ (omega arith) (so-far .in-words) (c .slot-of .ensures);
-      in-ones = filled-turn _ _ _ _ (omega arith) (so-far .in-ones) (c .slot-of .ensures);
-      in-twos = filled-turn _ _ _ _ (omega arith) (so-far .in-twos) (c .slot-of .ensures);
+      in-words = filled-turn _ _ _ (omega arith) (so-far .in-words) (ap (λ (s : Slot). s .word) (c .slot-of .ensures));
+      in-ones = filled-turn _ _ _ (omega arith) (so-far .in-ones) (ap (λ (s : Slot). s .one) (c .slot-of .ensures));
+      in-twos = filled-turn _ _ _ (omega arith) (so-far .in-twos) (ap (λ (s : Slot). s .two) (c .slot-of .ensures));
       words-length = search needs;
       ones-length = search needs;
       twos-length = search needs;
@@ -91,8 +92,8 @@ same-length-3 c = search needs
 returns : tie.Need-returns Inv-loop μ-loop
 returns c =
     let so-far = c .before .loop .inv in (
-      filled-whole _ _ _ _ _ (omega arith) (so-far .in-words),
-      (filled-whole _ _ _ _ _ (omega arith) (so-far .in-ones), filled-whole _ _ _ _ _ (omega arith) (so-far .in-twos)),
+      filled-whole _ _ _ _ (omega arith) (so-far .in-words),
+      (filled-whole _ _ _ _ (omega arith) (so-far .in-ones), filled-whole _ _ _ _ (omega arith) (so-far .in-twos)),
     )
 
 pub fill-spec : {M : Type 1} → statement M

@@ -5,7 +5,7 @@ use mathlib.Core.Path.{_≡_, sym, _∙_}
 use mathlib.Core.Bool.{true}
 use Rattle.entries.specs.Fault.{leastLength, mostLength}
 use Rattle.card.specs.Layout.{formOf, formatOf}
-use Rattle.card.specs.Reading.{mostEntries, isKind, isWithin}
+use Rattle.card.specs.Reading.{theForm, leastEntries, mostEntries, isKind, isWithin}
 use Rattle.card.proofs.ReadingLaws.{failed, passed, form-wrong, kind-wrong, length-wrong, count-wrong, not-spare, fields-sound}
 use Rattle.card.proofs.reading.fields_hold.Statement.{statement}
 use Rattle.card.proofs.reading.fields_hold.Tie as tie
@@ -19,7 +19,7 @@ module _ (c : tie.Else1) where
   abbrev told : start .args .f ≡ formatOf (start .args .head .now)
   told = start .pre .1
 
-  form-ok : formOf (start .args .head .now) ≡ 1
+  form-ok : formOf (start .args .head .now) ≡ theForm
   unfolding formOf
   form-ok = c .if1 .left
 
@@ -41,7 +41,7 @@ module _ (c : tie.Else4) where
   abbrev past-letters : tie.Else3
   past-letters = c .before .before
 
-  count-ok : isWithin 1 mostEntries (formatOf (start (past-form (past-kind past-letters)) .args .head .now) .m) ≡ true
+  count-ok : isWithin leastEntries mostEntries (formatOf (start (past-form (past-kind past-letters)) .args .head .now) .m) ≡ true
   count-ok = passed (rw (told (past-form (past-kind past-letters))) at (c .before .is-within2 .ensures)) (c .if4 .left)
 
 -- ---- the needs

@@ -1,7 +1,7 @@
 -- `card::reading::laters_hold` meets its contract. The invariant: the tests of the blocks that are left answer as those of all later blocks
 -- do. Assumes nothing.
 use borrow.Author.Needs.{needs}
-use mathlib.Core.Path.{_≡_, sym, ap, _∙_}
+use mathlib.Core.Path.{_≡_, sym, _∙_}
 use mathlib.Core.List.{List}
 use Prim.Native.Nat.{ℕ, _+_, _-_, _≤_}
 use native.Mathlib.Omega.{arith}

@@ -1,0 +1,28 @@
+-- Each public contract determines the outcome: two results that both meet it at the same input are equal. `Post` is the contract as it is
+-- read from the source. Assumes nothing.
+use mathlib.Core.Path.{_≡_, sym, _∙_}
+use contract.Lifetimes.{Lfts}
+use denote.Triple.Clauses.{AtExit}
+use borrow.Fn.Kinds.{Dens, resT, endedOf}
+use Rattle.answers.proofs.Laws.{held-one}
+use Rattle.entries.proofs.slot_at.Kinds as slot-at
+use Rattle.entries.proofs.slot_at.Reads as slot-at-reads
+use Rattle.entries.proofs.entry_of.Kinds as entry-of
+use Rattle.entries.proofs.entry_of.Reads as entry-of-reads
+use Rattle.entries.proofs.entry_holds.Kinds as entry-holds
+use Rattle.entries.proofs.entry_holds.Reads as entry-holds-reads
+
+module _ (κs : Lfts 1) where
+  pub slot-at-one : (a : Dens κs slot-at.ps) (r r′ : resT slot-at.r κs .Denot) (e e′ : AtExit (endedOf 1 slot-at.ps slot-at.r) κs)
+      → slot-at-reads.Post κs a r e → slot-at-reads.Post κs a r′ e′ → r ≡ r′
+  slot-at-one a r r′ e e′ p q = p ∙ sym q
+
+module _ (κs : Lfts 0) where
+  pub entry-of-one : (a : Dens κs entry-of.ps) (r r′ : resT entry-of.r κs .Denot) (e e′ : AtExit (endedOf 0 entry-of.ps entry-of.r) κs)
+      → entry-of-reads.Post κs a r e → entry-of-reads.Post κs a r′ e′ → r ≡ r′
+  entry-of-one a r r′ e e′ p q = p ∙ sym q
+
+  pub entry-holds-one : (a : Dens κs entry-holds.ps) (r r′ : resT entry-holds.r κs .Denot)
+      (e e′ : AtExit (endedOf 0 entry-holds.ps entry-holds.r) κs)
+      → entry-holds-reads.Post κs a r e → entry-holds-reads.Post κs a r′ e′ → r ≡ r′
+  entry-holds-one a r r′ e e′ p q = held-one r r′ (p ∙ sym q)
