@@ -12,6 +12,7 @@ use borrow.Author.Tests.{le-leb, lt-leb, leb-true, eq-eqb, ne-eqb}
 use Rattle.answers.specs.Numbers.{Check, Index, Absent}
 use Rattle.answers.specs.Answer.{Answer, given, refused, Sound, sound, Test, test, first}
 use Rattle.answers.proofs.Laws.{first-pass, first-fail, first-last, first-passed, first-holds, first-refused, first-given-any, first-refused-any}
+use Rattle.answers.proofs.Numbered.{Numbered, none, also}
 use Rattle.block.specs.declared.Sums.{Sums}
 use Rattle.block.specs.Check.{sumsOf, checks, checkAt}
 use Rattle.block.specs.Block.{blockBytes, blockAt, indexOf, blockTests, fetchTests, partOf, fetchOf, placeOf, startOf, offsetOf}
@@ -45,6 +46,11 @@ module _ (b : List ℕ) (k : ℕ) where
       first-pass (checks b) Check k (test (eqb (indexOf b) k) Index k ∷ []) sound h
       ∙ first-last (eqb (indexOf b) k) Index k sound (eq-eqb (indexOf b) k i)
 
+  -- each refuses by a number above 0
+  pub block-numbered : Numbered (blockTests b k)
+  unfolding blockTests
+  block-numbered = also {n = Check} (omega arith) (also {n = Index} (omega arith) none)
+
 -- ---- a block of a card
 
 module _ (card : List ℕ) (k : ℕ) where
@@ -58,6 +64,11 @@ module _ (card : List ℕ) (k : ℕ) where
       → first (fetchTests card k) a ≡ first (blockTests (blockAt card k) k) a
   unfolding fetchTests
   present a h = first-pass _ _ _ _ _ (le-leb _ _ h)
+
+  -- each test refuses by a number above 0
+  pub fetch-numbered : Numbered (fetchTests card k)
+  unfolding fetchTests
+  fetch-numbered = also {n = Absent} (omega arith) (block-numbered (blockAt card k) k)
 
   -- a block that holds is all there
   pub holds-there : {A : Type 0} (a b : A) → first (fetchTests card k) a ≡ given b → blockBytes * k + blockBytes ≤ length card

@@ -1,12 +1,11 @@
 // Where things stand on a card.
 ghost use mathlib.Core.Path.{_≡_};
-ghost use Prim.Native.Nat.{_+_, _*_, _/_, _≤_, _<_};
+ghost use Prim.Native.Nat.{_+_, _*_, _/_, _≤_};
 ghost use lib.ListN.{length, drop};
 ghost use Rattle.block.specs.Block.{blockBytes};
 ghost use Rattle.card.specs.Layout.{formatOf, toldBy, perBlock, entryBlocks, entriesBefore, entriesIn, slotOf, isZeros, headSpare, slotsSpare};
 ghost use Rattle.card.specs.Reading.{mostEntries};
 ghost use Rattle.card.specs.Fetching.{entryAt};
-use block::BLOCK;
 use entries::Entry;
 use entries::Format;
 use entries::Slot;

@@ -11,6 +11,7 @@ use borrow.Author.Tests.{lt-ltb, le-ltb, le-leb, lt-leb, ltb-true, eq-eqb, ne-eq
 use Rattle.answers.specs.Numbers.{Word, Places}
 use Rattle.answers.specs.Answer.{given, refused, sound, test, first}
 use Rattle.answers.proofs.Laws.{first-pass, first-fail, first-last}
+use Rattle.answers.proofs.Numbered.{Numbered, none, also}
 use Rattle.entries.specs.declared.Format.{Format}
 use Rattle.entries.specs.declared.Slot.{Slot}
 use Rattle.entries.specs.declared.Places.the-variants.{One, Two, Span}
@@ -83,6 +84,11 @@ module _ (f : Format) (e : ℕ) (s : Slot) where
   pub word-over : 4 ^ f .l ≤ s .word → first (entryTests f e s) sound ≡ refused Word e
   unfolding entryTests
   word-over h = first-fail _ _ _ _ _ (le-ltb (s .word) (4 ^ f .l) h)
+
+  -- each test refuses by a number above 0
+  pub entry-numbered : Numbered (entryTests f e s)
+  unfolding entryTests
+  entry-numbered = also {n = Word} (omega arith) (also {n = Places} (omega arith) none)
 
   -- a word that fits leaves the test of the places
   word-fits : s .word < 4 ^ f .l

@@ -1,3 +1,5 @@
--- `Laws` has what this crate's proofs cite, `Determined` says that each contract has one outcome.
+-- `Laws` has what this crate's proofs cite, `Determined` says that each contract has one outcome, `ZeroMeansGiven` that a struct's number is
+-- 0 only where nothing was refused.
 pub mod Laws
 pub mod Determined
+pub mod ZeroMeansGiven

@@ -1,6 +1,7 @@
 -- `block::fetch` meets its contract: the block's own bytes where the companion holds, and otherwise none. Assumes nothing.
 use borrow.Author.Needs.{needs}
 use mathlib.Core.Path.{_≡_, sym, _∙_}
+use native.Mathlib.Omega.{arith}
 use Rattle.answers.specs.Answer.{given, sound, first}
 use Rattle.answers.proofs.Laws.{told-holds, told-refused}
 use Rattle.block.specs.Block.{fetchTests}
@@ -22,7 +23,7 @@ holds : (c : tie.After-enum-told) → first (fetchTests (start-of c .args .card 
 holds c = told-holds (c .before .before .companion .ensures) (c .enum-told .given .1)
 
 part-requires : tie.Need-part-requires
-part-requires c κs = holds-there _ _ sound sound (holds c)
+part-requires c κs = let start = start-of c .args in omega (arith, holds-there (start .card .now) (start .k) sound sound (holds c))
 
 enum-told-2 : tie.Need-enum-told-2
 enum-told-2 c = search needs

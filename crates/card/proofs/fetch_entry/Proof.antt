@@ -2,6 +2,7 @@
 -- Assumes nothing.
 use borrow.Author.Needs.{needs}
 use mathlib.Core.Path.{sym, ap, _∙_}
+use native.Mathlib.Omega.{arith}
 use Rattle.answers.specs.Answer.{given}
 use Rattle.entries.specs.declared.Format.{Format}
 use Rattle.card.specs.Reading.{mostEntries}
@@ -26,8 +27,10 @@ module _ (c : tie.After-f) where
 
 entry-at-requires : tie.Need-entry-at-requires
 entry-at-requires c κs =
-    let admitted = c .before .before .before in
-    (ap (λ (f : Format). f .kind) (has admitted .told), entry-on-card _ _ (has admitted) _ (c .if1 .taken))
+    let admitted = c .before .before .before in (
+      ap (λ (f : Format). f .kind) (has admitted .told),
+      omega (arith, entry-on-card mostEntries (start admitted .args .card .now) (has admitted) (start admitted .args .i) (c .if1 .taken)),
+    )
 
 enum-known-r : tie.Need-enum-known-r
 enum-known-r c = search needs

@@ -2,6 +2,7 @@
 -- Assumes nothing.
 use borrow.Author.Needs.{needs}
 use mathlib.Core.Path.{sym, ap, _∙_}
+use native.Mathlib.Omega.{arith}
 use Rattle.answers.specs.Answer.{given}
 use Rattle.entries.specs.declared.Entry.{Entry}
 use Rattle.entries.specs.declared.Format.{Format}
@@ -28,12 +29,16 @@ module _ (c : tie.After-f) where
   has = told-admitted _ _ (c .before .before .admit .ensures) (c .f .given .1)
 
 add-t11 : tie.Need-add-t11
-add-t11 c = search needs
+add-t11 c =
+    let admitted = c .before .before .before in
+    omega (arith, ap (λ (f : Format). f .m) (has admitted .told), has admitted .head .most)
 
 entry-at-requires : tie.Need-entry-at-requires
 entry-at-requires c κs =
-    let admitted = c .before .before .before in
-    (ap (λ (f : Format). f .kind) (has admitted .told), entry-on-card _ _ (has admitted) _ (c .if1 .taken))
+    let admitted = c .before .before .before in (
+      ap (λ (f : Format). f .kind) (has admitted .told),
+      omega (arith, entry-on-card mostEntries (start admitted .args .card .now) (has admitted) (start admitted .args .self .at) (c .if1 .taken)),
+    )
 
 enum-known-r : tie.Need-enum-known-r
 enum-known-r c = search needs
