@@ -2,13 +2,14 @@
 use mathlib.Core.Path.{_≡_, refl, sym, ap, _∙_}
 use mathlib.Core.Bool.{Bool, true, false}
 use mathlib.Core.List.{List, [], _∷_, _++_}
-use Prim.Native.Nat.{ℕ, suc, _+_, _-_, _≤_, _<_}
+use Prim.Native.Nat.{ℕ, zero, suc, _+_, _-_, _≤_, _<_}
 use native.Mathlib.Numerals.{add-one}
 use native.Mathlib.Omega.{arith}
 use Rattle.answers.specs.declared.Refusal.{Refusal}
 use Rattle.answers.specs.declared.Held.{Held}
 use Rattle.answers.specs.declared.Held.the-variants.{Holds, Refused}
-use Rattle.answers.specs.Answer.{Answer, given, refused, Sound, sound, Test, test, first, inTurn, saysHeld}
+use Rattle.answers.specs.Answer.{Answer, given, refused, Sound, sound, Test, test, first, saysHeld}
+use Rattle.answers.specs.Row.{inTurn}
 
 -- ---- one test
 
@@ -99,6 +100,27 @@ module _ (f : ℕ → List Test) (n i : ℕ) where
   pub turns-end : {A : Type 0} (a : A) → n ≤ i → first (inTurn f i (n - i)) a ≡ given a
   unfolding first inTurn
   turns-end a h = let e : n - i ≡ 0 = omega arith in rw e
+
+-- they hold exactly where each does
+module _ (f : ℕ → List Test) where
+  pub turns-hold : (n k : ℕ) → ((i : ℕ) → i < n → first (f (k + i)) sound ≡ given sound) → first (inTurn f k n) sound ≡ given sound
+  unfolding first inTurn
+  turns-hold zero k each = refl
+  turns-hold (suc n) k each =
+      let z : k + 0 ≡ k = omega arith in
+      let later : (i : ℕ) → i < n → first (f (suc k + i)) sound ≡ given sound =
+      λ i h. let next : k + suc i ≡ suc k + i = omega arith in rw next at (each (suc i) (omega arith)) in
+      first-holds (inTurn f (suc k) n) sound (f k) (rw z at (each 0 (omega arith))) ∙ turns-hold n (suc k) later
+
+  pub turns-held : (n k i : ℕ) → first (inTurn f k n) sound ≡ given sound → i < n → first (f (k + i)) sound ≡ given sound
+  unfolding inTurn
+  turns-held zero k i e h = absurd (omega arith)
+  turns-held (suc n) k zero e h =
+      let z : k + 0 ≡ k = omega arith in
+      rw z (first-both (inTurn f (suc k) n) sound (f k) sound e .0)
+  turns-held (suc n) k (suc i) e h =
+      let next : k + suc i ≡ suc k + i = omega arith in
+      rw next (turns-held n (suc k) i (first-both (inTurn f (suc k) n) sound (f k) sound e .1) (omega arith))
 
 -- ---- enums that say an answer
 

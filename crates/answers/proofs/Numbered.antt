@@ -4,7 +4,8 @@ use mathlib.Core.Bool.{Bool, true, false}
 use mathlib.Core.List.{List, [], _∷_, _++_}
 use Prim.Native.Nat.{ℕ, zero, suc, _<_}
 use native.Mathlib.Omega.{arith}
-use Rattle.answers.specs.Answer.{Test, test, refused, first, inTurn}
+use Rattle.answers.specs.Answer.{Test, test, refused, first}
+use Rattle.answers.specs.Row.{inTurn}
 
 -- each of these tests refuses by a number above 0
 pub data Numbered : List Test → Type 0 where

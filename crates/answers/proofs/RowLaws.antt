@@ -1,10 +1,10 @@
--- The laws of `row`. Assumes nothing.
-use mathlib.Core.Path.{_≡_, refl, ap, _∙_}
-use mathlib.Core.List.{List, [], _∷_, _++_}
-use Prim.Native.Nat.{ℕ, zero, suc, _+_, _<_}
+-- The laws of `row` and `inTurn`. Assumes nothing.
+use mathlib.Core.Path.{_≡_, refl, sym, ap, _∙_}
+use mathlib.Core.List.{List, [], _∷_, _++_, append-assoc, append-nil}
+use Prim.Native.Nat.{ℕ, zero, suc, _+_, _*_, _-_, _<_}
 use native.Mathlib.Omega.{arith}
-use lib.ListN.{length, getD}
-use Rattle.answers.specs.Row.{row}
+use lib.ListN.{length, getD, length-append}
+use Rattle.answers.specs.Row.{row, inTurn}
 
 module _ {A : Type 0} (f : ℕ → A) where
   pub row-none : (k : ℕ) → row f k 0 ≡ []
@@ -33,3 +33,57 @@ module _ {A : Type 0} (f : ℕ → A) where
   row-more k zero = ap (λ (x : A). x ∷ []) (ap f (omega arith))
   row-more k (suc n) =
       ap (λ (xs : List A). f k ∷ xs) (row-more (suc k) n ∙ ap (λ (x : A). row f (suc k) n ++ (x ∷ [])) (ap f (omega arith)))
+
+-- ---- lists in turn
+
+module _ {A : Type 0} (f : ℕ → List A) where
+  pub turns-none : (k : ℕ) → inTurn f k 0 ≡ []
+  unfolding inTurn
+  turns-none k = refl
+
+  -- one more at the end
+  pub turns-more : (k n : ℕ) → inTurn f k (suc n) ≡ inTurn f k n ++ f (k + n)
+  unfolding inTurn
+  turns-more k zero = let z : k + 0 ≡ k = omega arith in rw z (append-nil (f k))
+  turns-more k (suc n) =
+      let next : k + suc n ≡ suc k + n = omega arith in
+      ap (λ (xs : List A). f k ++ xs) (turns-more (suc k) n)
+      ∙ sym (append-assoc (f k) (inTurn f (suc k) n) (f (suc k + n)))
+      ∙ rw next refl
+
+  -- where each has as many elements
+  pub length-turns : (w : ℕ) → ((k : ℕ) → length (f k) ≡ w) → (k n : ℕ) → length (inTurn f k n) ≡ w * n
+  unfolding inTurn
+  length-turns w each k zero = omega arith
+  length-turns w each k (suc n) = omega (arith, length-append (f k) (inTurn f (suc k) n), each k, length-turns w each (suc k) n)
+
+  -- the list at i, with those before it and those after it
+  pub turns-at : (k n i : ℕ) → i < n → inTurn f k n ≡ inTurn f k i ++ (f (k + i) ++ inTurn f (k + i + 1) (n - (i + 1)))
+  unfolding inTurn
+  turns-at k zero i h = absurd (omega arith)
+  turns-at k (suc n) zero h =
+      let here : k + 0 ≡ k = omega arith in
+      let next : k + 1 ≡ suc k = omega arith in
+      let rest : suc n - 1 ≡ n = omega arith in
+      rw (here, next, rest)
+  turns-at k (suc n) (suc i) h =
+      let here : k + suc i ≡ suc k + i = omega arith in
+      let rest : suc n - (suc i + 1) ≡ n - (i + 1) = omega arith in
+      rw (here, rest)
+      (ap (λ (xs : List A). f k ++ xs) (turns-at (suc k) n i (omega arith))
+      ∙ sym (append-assoc (f k) (inTurn f (suc k) i) (f (suc k + i) ++ inTurn f (suc k + i + 1) (n - (i + 1)))))
+
+-- lists that are the same one by one
+pub turns-same : {A : Type 0} (f g : ℕ → List A) (k j n : ℕ) → ((i : ℕ) → i < n → f (k + i) ≡ g (j + i)) → inTurn f k n ≡ inTurn g j n
+unfolding inTurn
+turns-same f g k j zero each = refl
+turns-same {A} f g k j (suc n) each =
+    let k-here : k + 0 ≡ k = omega arith in
+    let j-here : j + 0 ≡ j = omega arith in
+    let here : f k ≡ g j = rw (k-here, j-here) at (each 0 (omega arith)) in
+    let later : (i : ℕ) → i < n → f (suc k + i) ≡ g (suc j + i) =
+    λ i h.
+    let k-next : k + suc i ≡ suc k + i = omega arith in
+    let j-next : j + suc i ≡ suc j + i = omega arith in
+    rw (k-next, j-next) at (each (suc i) (omega arith)) in
+    ap (λ (xs : List A). xs ++ inTurn f (suc k) n) here ∙ ap (λ (xs : List A). g j ++ xs) (turns-same f g (suc k) (suc j) n later)

@@ -3,12 +3,11 @@
 --   Answer A          == a value of A that is given, or a refusal with its number and place
 --   test ok n p       == a test, and the refusal n at p that is due where it fails
 --   first ts a        == the refusal of the first of the tests ts that fails, or else a is given
---   inTurn f k n      == the tests f k, f (k + 1), …, n times, one after the other
 --   saysHeld h        == what the enum `Held` says
 -- Every order of tests in 01 is one list of tests, in that order. Assumes nothing.
 use mathlib.Core.Bool.{Bool, cond}
-use mathlib.Core.List.{List, [], _∷_, _++_}
-use Prim.Native.Nat.{ℕ, zero, suc}
+use mathlib.Core.List.{List, [], _∷_}
+use Prim.Native.Nat.{ℕ}
 use Rattle.answers.specs.declared.Held.{Held}
 use Rattle.answers.specs.declared.Held.the-variants.{Holds, Refused}
 
@@ -26,10 +25,6 @@ pub data Test : Type 0 where
 unfoldable pub first : {A : Type 0} → List Test → A → Answer A
 first [] a = given a
 first (test ok n p ∷ ts) a = cond ok (first ts a) (refused n p)
-
-unfoldable pub inTurn : (ℕ → List Test) → ℕ → ℕ → List Test
-inTurn f k zero = []
-inTurn f k (suc n) = f k ++ inTurn f (suc k) n
 
 abbrev pub saysHeld : Held → Answer Sound
 saysHeld Holds = given sound

@@ -3,17 +3,20 @@ use mathlib.Core.Path.{_≡_, refl, sym, ap, _∙_}
 use mathlib.Core.Logic.{_↔_}
 use mathlib.Core.Bool.{true, false}
 use mathlib.Core.List.{List, [], _∷_, _++_}
-use Prim.Native.Nat.{ℕ, _+_, _*_, _-_, _≤_, _<_}
+use Prim.Native.Nat.{ℕ, zero, suc, _+_, _*_, _-_, _≤_, _<_}
 use native.Mathlib.Nat.{add-sub-cancel-left}
 use native.Mathlib.Omega.{arith}
-use lib.ListN.{length, getD, take, drop, length-take, length-drop}
+use lib.ListN.{length, getD, take, drop, length-take, length-drop, take-append-drop, drop-of-length-le}
+use lib.Seq.{take-at, drop-at, drop-drop, getD-drop}
 use lib.Dec.{eqb}
 use borrow.Author.Tests.{le-leb, lt-leb, leb-true, eq-eqb, ne-eqb}
 use Rattle.answers.specs.Numbers.{Check, Index, Absent}
 use Rattle.answers.specs.Answer.{Answer, given, refused, Sound, sound, Test, test, first}
+use Rattle.answers.specs.Row.{inTurn}
 use Rattle.answers.proofs.Laws.{first-pass, first-fail, first-last, first-passed, first-holds, first-refused, first-given-any, first-refused-any}
 use Rattle.answers.proofs.Numbered.{Numbered, none, also}
 use Rattle.block.specs.declared.Sums.{Sums}
+use Rattle.block.specs.Bytes.{AreBytes}
 use Rattle.block.specs.Check.{sumsOf, checks, checkAt}
 use Rattle.block.specs.Block.{blockBytes, blockAt, indexOf, blockTests, fetchTests, partOf, fetchOf, placeOf, startOf, offsetOf}
 
@@ -50,6 +53,42 @@ module _ (b : List ℕ) (k : ℕ) where
   pub block-numbered : Numbered (blockTests b k)
   unfolding blockTests
   block-numbered = also {n = Check} (omega arith) (also {n = Index} (omega arith) none)
+
+-- the block of a card put together from parts
+pub block-in-place : (p b q : List ℕ) (k : ℕ) → length p ≡ blockBytes * k → length b ≡ blockBytes → blockAt (p ++ (b ++ q)) k ≡ b
+unfolding blockAt
+block-in-place p b q k hp hb = rw (drop-at p (b ++ q) (blockBytes * k) hp, take-at b q blockBytes hb)
+
+-- the first of some bytes are bytes
+take-bytes : (n : ℕ) (xs : List ℕ) → AreBytes xs → AreBytes (take n xs)
+take-bytes zero xs bytes i = omega arith
+take-bytes (suc n) [] bytes i = omega arith
+take-bytes (suc n) (x ∷ xs) bytes zero = bytes 0
+take-bytes (suc n) (x ∷ xs) bytes (suc i) = take-bytes n xs (λ j. bytes (suc j)) i
+
+-- a card's blocks are its bytes
+module _ (card : List ℕ) where
+  -- a block, and what stands after it
+  block-then-rest : (k : ℕ) → blockAt card k ++ drop (blockBytes * suc k) card ≡ drop (blockBytes * k) card
+  unfolding blockAt
+  block-then-rest k =
+      let next : blockBytes * suc k ≡ blockBytes * k + blockBytes = omega arith in
+      rw next (ap (λ (xs : List ℕ). blockAt card k ++ xs) (sym (drop-drop blockBytes (blockBytes * k) card)))
+      ∙ take-append-drop blockBytes (drop (blockBytes * k) card)
+
+  blocks-from : (n k : ℕ) → length card ≡ blockBytes * (k + n) → inTurn (blockAt card) k n ≡ drop (blockBytes * k) card
+  unfolding inTurn
+  blocks-from zero k h = sym (drop-of-length-le card {i = blockBytes * k} (omega arith))
+  blocks-from (suc n) k h =
+      ap (λ (xs : List ℕ). blockAt card k ++ xs) (blocks-from n (suc k) (omega arith)) ∙ block-then-rest k
+
+  pub blocks-all : (n : ℕ) → length card ≡ blockBytes * n → inTurn (blockAt card) 0 n ≡ card
+  blocks-all n h = blocks-from n 0 (omega arith)
+
+  -- every byte of a block is below 256 where every byte of the card is
+  pub block-bytes : AreBytes card → (k : ℕ) → AreBytes (blockAt card k)
+  unfolding blockAt
+  block-bytes bytes k = take-bytes blockBytes (drop (blockBytes * k) card) (λ i. rw (getD-drop (blockBytes * k) card i 0) (bytes (blockBytes * k + i)))
 
 -- ---- a block of a card
 

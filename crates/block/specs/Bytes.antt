@@ -1,12 +1,27 @@
--- Numbers in bytes: "Little-endian throughout." Assumes nothing.
-use Prim.Native.Nat.{ℕ, _+_, _*_}
-use mathlib.Core.List.{List}
-use lib.ListN.{getD}
+-- Numbers in bytes: "Little-endian throughout."
+--   twoAt bytes at, fourAt bytes at    == the number in two, in four bytes from `at` on
+--   twoBytes x, fourBytes x            == the two, the four bytes that hold the number x
+--   putAt xs at buffer                 == the buffer with the bytes xs from `at` on, and its other bytes as they were
+--   AreBytes xs                        == each of the numbers xs is a byte, as each number in a buffer is
+-- Assumes nothing.
+use Prim.Native.Nat.{ℕ, _+_, _*_, _/_, _%_, _<_}
+use mathlib.Core.List.{List, [], _∷_, _++_}
+use lib.ListN.{length, getD, take, drop}
 
--- the number in two bytes from `at` on
 unfoldable pub twoAt : List ℕ → ℕ → ℕ
 twoAt bytes at = getD bytes at 0 + 256 * getD bytes (at + 1) 0
 
--- the number in four bytes from `at` on
 unfoldable pub fourAt : List ℕ → ℕ → ℕ
 fourAt bytes at = twoAt bytes at + 65536 * twoAt bytes (at + 2)
+
+unfoldable pub twoBytes : ℕ → List ℕ
+twoBytes x = x % 256 ∷ x / 256 ∷ []
+
+unfoldable pub fourBytes : ℕ → List ℕ
+fourBytes x = twoBytes (x % 65536) ++ twoBytes (x / 65536)
+
+unfoldable pub putAt : List ℕ → ℕ → List ℕ → List ℕ
+putAt xs at buffer = take at buffer ++ xs ++ drop (at + length xs) buffer
+
+abbrev pub AreBytes : List ℕ → Type 0
+AreBytes xs = (i : ℕ) → getD xs i 0 < 256

@@ -1,4 +1,5 @@
--- `Bytes` is for numbers in bytes, `Check` for a block's check, `Block` for what holds and what is fetched.
+-- `Bytes` is for numbers in bytes, `Check` for a block's check, `Block` for what holds and what is fetched, `Sealing` for what is written.
 pub mod Bytes
 pub mod Check
 pub mod Block
+pub mod Sealing

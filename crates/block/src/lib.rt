@@ -1,12 +1,13 @@
-// The blocks of a card: fetched where their check and their index hold. This layer knows nothing of entries.
+// The blocks of a card: fetched where their check and their index hold, and sealed. This layer knows nothing of entries.
 // No function that the scope names has a `requires`: `fetch` and `companion` test their own input.
 ghost use mathlib.Core.Path.{_≡_};
-ghost use Prim.Native.Nat.{_+_, _*_, _≤_, _<_};
-ghost use lib.ListN.{length};
+ghost use Prim.Native.Nat.{_+_, _*_, _-_, _≤_};
+ghost use lib.ListN.{length, take, replicate};
 ghost use Rattle.answers.specs.Answer.{first, sound, saysHeld};
-ghost use Rattle.block.specs.Bytes.{twoAt, fourAt};
+ghost use Rattle.block.specs.Bytes.{twoAt, fourAt, twoBytes, fourBytes, putAt};
 ghost use Rattle.block.specs.Check.{stepOf, sumsOf, checks};
-ghost use Rattle.block.specs.Block.{blockBytes, blockAt, blockTests, fetchTests, fetchOf, placeOf, startOf};
+ghost use Rattle.block.specs.Block.{blockBytes, blockAt, indexAt, blockTests, fetchTests, fetchOf, placeOf, startOf};
+ghost use Rattle.block.specs.Sealing.{sealed};
 use answers::Held;
 use answers::Refusal;
 
@@ -143,4 +144,46 @@ pub fn fetch(card: &[u8], k: usize) -> &[u8]
         Held::Holds => part(card, k),
         Held::Refused(_) => &card[..0],
     }
+}
+
+// Writes a number into the two bytes of a part from `at` on.
+pub fn put_two(part: &mut [u8], at: usize, x: u16)
+    requires { ⌜ at + 2 ≤ length (now part) ⌝ }
+    ensures { λ _. ⌜ now (part .exit) ≡ putAt (twoBytes x) at (now (part .entry)) ⌝ }
+{
+    part[at] = (x % 256) as u8;
+    part[at + 1] = (x / 256) as u8;
+}
+
+// Writes a number into the four bytes of a part from `at` on.
+pub fn put_four(part: &mut [u8], at: usize, x: u32)
+    requires { ⌜ at + 4 ≤ length (now part) ⌝ }
+    ensures { λ _. ⌜ now (part .exit) ≡ putAt (fourBytes x) at (now (part .entry)) ⌝ }
+{
+    put_two(part, at, (x % 65536) as u16);
+    put_two(part, at + 2, (x / 65536) as u16);
+}
+
+// Writes zeros into a part from byte `from` up to the byte before `to`.
+fn clear(part: &mut [u8], from: usize, to: usize)
+    requires { ⌜ (from ≤ to) × (to ≤ length (now part)) ⌝ }
+    ensures { λ _. ⌜ now (part .exit) ≡ putAt (replicate (to - from) 0) from (now (part .entry)) ⌝ }
+{
+    let mut i = from;
+    while i < to {
+        part[i] = 0;
+        i += 1;
+    }
+}
+
+// Makes block k of a part whose first n bytes are the block's own: zeros up to its index, then its index and its check.
+pub fn seal(part: &mut [u8], n: usize, k: u16)
+    requires { ⌜ (length (now part) ≡ blockBytes) × (n ≤ indexAt) ⌝ }
+    ensures { λ _. ⌜ now (part .exit) ≡ sealed (take n (now (part .entry))) k ⌝ }
+{
+    clear(part, n, INDEX_AT);
+    put_two(part, INDEX_AT, k);
+    let s = sum_up(&part[..CHECK_AT]);
+    part[CHECK_AT] = s.a;
+    part[CHECK_AT + 1] = s.b;
 }

@@ -5,7 +5,8 @@ use mathlib.Core.List.{List, [], _∷_, _++_, map}
 use Prim.Native.Nat.{ℕ}
 use lib.ListN.{replicate}
 use Rattle.answers.specs.Numbers.{Short, Check, Form, Kind, Length, Count, Size, Absent}
-use Rattle.answers.specs.Answer.{Answer, given, refused, first, inTurn}
+use Rattle.answers.specs.Answer.{Answer, given, refused, first}
+use Rattle.answers.specs.Row.{inTurn}
 use Rattle.block.specs.Bytes.{twoAt, fourAt}
 use Rattle.block.specs.Check.{sumsOf, checks}
 use Rattle.block.specs.Block.{blockAt, indexOf, blockTests}
@@ -14,9 +15,10 @@ use Rattle.entries.specs.declared.Places.the-variants.{Span}
 use Rattle.entries.specs.Slot.{slotAt}
 use Rattle.entries.specs.Fault.{span, pairHolds, spanHolds, placesHold, entryTests}
 use Rattle.entries.specs.Entry.{placesOf, entryOf}
-use Rattle.card.specs.Layout.{formOf, formatOf, slotOf, headSpare, slotsSpare}
-use Rattle.card.specs.Reading.{mostEntries, fieldTests, headTests, slotsTests, laterTests, readingOrder}
-use Rattle.card.specs.Fetching.{admission, entryAt, entryFetch, more, end, nextAt, stepping}
+use Rattle.layout.specs.Layout.{formOf, formatOf, slotOf, headSpare, slotsSpare, entryAt}
+use Rattle.layout.specs.Bounds.{mostEntries}
+use Rattle.card.specs.Reading.{fieldTests, headTests, slotsTests, laterTests, readingOrder}
+use Rattle.card.specs.Fetching.{admission, entryFetch, more, end, nextAt, stepping}
 
 -- block 0 with these fields and check bytes; m below 256 and the high byte of m
 unfoldable pub headOf : (form kind l low high a b : ℕ) → List ℕ

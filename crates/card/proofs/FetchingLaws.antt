@@ -12,10 +12,10 @@ use Rattle.block.specs.Block.{blockBytes}
 use Rattle.entries.specs.declared.Format.{Format}
 use Rattle.card.specs.declared.Admitted.{Admitted}
 use Rattle.card.specs.declared.Admitted.the-variants.{Card, Refused}
-use Rattle.card.specs.Layout.{toldBy, perBlock, sizeOf}
+use Rattle.layout.specs.Layout.{toldBy, perBlock, sizeOf, entryAt}
 use Rattle.card.specs.Reading.{headTests, readingOrder}
-use Rattle.card.specs.Fetching.{admission, saysAdmitted, entryAt, entryFetch, more, end, nextAt, stepping}
-use Rattle.card.proofs.LayoutLaws.{entry-there}
+use Rattle.card.specs.Fetching.{admission, saysAdmitted, entryFetch, more, end, nextAt, stepping}
+use Rattle.layout.proofs.Laws.{entry-there}
 use Rattle.card.proofs.ReadingLaws.{HeadHolds, head-has}
 
 -- ---- what a card that is admitted has

@@ -18,7 +18,7 @@ use Rattle.answers.proofs.RowLaws.{length-row, row-none, row-more}
 use Rattle.answers.proofs.Tests.{both}
 use Rattle.entries.specs.declared.Format.{Format}
 use Rattle.card.specs.declared.Admitted.the-variants.{Card, Refused}
-use Rattle.card.specs.Layout.{toldBy, slotOf}
+use Rattle.layout.specs.Layout.{toldBy, slotOf}
 use Rattle.card.specs.Reading.{readingOrder}
 use Rattle.card.specs.Fetching.{admission}
 use Rattle.card.specs.Listing.{hasRoom, listTests, listing, filled, Listed}

@@ -1,31 +1,24 @@
 -- The laws of the reading order that this crate's proofs cite: what each test that fails or holds says of the whole. No contract cites
 -- this file. Assumes nothing.
 use mathlib.Core.Path.{_≡_, sym, _∙_}
-use mathlib.Core.Bool.{Bool, true, false, not}
+use mathlib.Core.Bool.{true, false}
 use mathlib.Core.List.{List, [], _∷_}
 use Prim.Native.Nat.{ℕ, _+_, _*_, _≤_, _<_}
 use native.Mathlib.Omega.{arith}
 use lib.ListN.{length}
-use lib.Dec.{leb}
-use borrow.Author.Tests.{le-leb, lt-leb, leb-true, eq-eqb, ne-eqb, not-true, not-false}
+use borrow.Author.Tests.{le-leb, lt-leb, leb-true, eq-eqb, ne-eqb}
 use Rattle.answers.specs.Numbers.{Short, Form, Kind, Length, Count, Spare, Size}
-use Rattle.answers.specs.Answer.{given, refused, sound, test, first, inTurn}
+use Rattle.answers.specs.Answer.{given, refused, sound, test, first}
+use Rattle.answers.specs.Row.{inTurn}
 use Rattle.answers.proofs.Laws.{first-pass, first-fail, first-last, first-passed, first-holds, first-refused, first-both}
-use Rattle.answers.proofs.Tests.{both}
 use Rattle.block.specs.Block.{blockBytes, blockAt, blockTests, fetchTests}
 use Rattle.block.proofs.Laws.{block-refused, block-held}
 use Rattle.entries.specs.declared.Format.{Format}
 use Rattle.entries.specs.Fault.{leastLength, mostLength}
-use Rattle.card.specs.Layout.{formOf, formatOf, toldBy, entryBlocks, sizeOf, entriesBefore, entriesIn, headSpare, slotsSpare}
-use Rattle.card.specs.Reading.{theForm, leastEntries, isWithin, isKind, fieldTests, headTests, slotsTests, laterTests, readingOrder}
-
--- ---- a test in the code, `!t`, and what it says of what t stands for
-
-pub failed : {t u : Bool} → t ≡ u → not t ≡ true → u ≡ false
-failed {t} e h = sym e ∙ not-true t h
-
-pub passed : {t u : Bool} → t ≡ u → not t ≡ false → u ≡ true
-passed {t} e h = sym e ∙ not-false t h
+use Rattle.layout.proofs.Laws.{within-both}
+use Rattle.layout.specs.Layout.{formOf, formatOf, toldBy, entryBlocks, sizeOf, entriesBefore, entriesIn, headSpare, slotsSpare}
+use Rattle.layout.specs.Bounds.{theForm, leastEntries, isWithin, isKind}
+use Rattle.card.specs.Reading.{fieldTests, headTests, slotsTests, laterTests, readingOrder}
 
 -- ---- the fields of block 0
 
@@ -137,10 +130,6 @@ module _ (limit : ℕ) (card : List ℕ) where
     reading-goes-on e = sym (first-holds _ _ _ head ∙ first-pass _ _ _ _ _ (eq-eqb _ _ e))
 
 -- ---- what a head, and what a card that is admitted, has
-
--- both ends of what is within
-within-both : (lo hi x : ℕ) → isWithin lo hi x ≡ true → (lo ≤ x) × (x ≤ hi)
-within-both lo hi x e = let h = both (leb lo x) (leb x hi) e in (leb-true lo x (h .0), leb-true x hi (h .1))
 
 pub record HeadHolds (limit : ℕ) (card : List ℕ) : Type 0 where
   pub there : blockBytes ≤ length card

@@ -11,7 +11,7 @@ use Rattle.block.proofs.Laws.{block-numbered}
 use Rattle.entries.specs.declared.Format.{Format}
 use Rattle.entries.specs.Slot.{slotAt}
 use Rattle.entries.proofs.Laws.{entry-numbered}
-use Rattle.card.specs.Layout.{toldBy, entryBlocks}
+use Rattle.layout.specs.Layout.{toldBy, entryBlocks}
 use Rattle.card.specs.Reading.{fieldTests, headTests, slotsTests, laterTests, readingOrder}
 use Rattle.card.specs.Fetching.{admission, entryFetch, stepping}
 

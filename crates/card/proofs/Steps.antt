@@ -11,7 +11,8 @@ use Rattle.answers.specs.Row.{row}
 use Rattle.answers.proofs.RowLaws.{length-row, row-none, row-first}
 use Rattle.entries.specs.declared.Format.{Format}
 use Rattle.entries.specs.declared.Entry.{Entry}
-use Rattle.card.specs.Fetching.{admission, entryAt, more, end, stepping}
+use Rattle.layout.specs.Layout.{entryAt}
+use Rattle.card.specs.Fetching.{admission, more, end, stepping}
 use Rattle.card.proofs.FetchingLaws.{Admits, admission-admits, step-more, step-end}
 
 -- from the head `at` the steps give these entries, one after the other, and then the end

@@ -8,14 +8,13 @@ use Rattle.answers.specs.Numbers.{Absent}
 use Rattle.answers.specs.Answer.{Answer, given, refused, test, first}
 use Rattle.entries.specs.declared.Format.{Format}
 use Rattle.entries.specs.declared.Entry.{Entry}
-use Rattle.entries.specs.Entry.{entryOf}
 use Rattle.card.specs.declared.Admitted.{Admitted}
 use Rattle.card.specs.declared.Admitted.the-variants.{Card, Refused as NotAdmitted}
 use Rattle.card.specs.declared.EntryFetch.{EntryFetch}
 use Rattle.card.specs.declared.EntryFetch.the-variants.{Found, Refused as NotFound}
 use Rattle.card.specs.declared.Stepped.{Stepped}
 use Rattle.card.specs.declared.Stepped.the-variants.{More, End, Refused as NotStepped}
-use Rattle.card.specs.Layout.{toldBy, slotOf}
+use Rattle.layout.specs.Layout.{toldBy, entryAt}
 use Rattle.card.specs.Reading.{readingOrder}
 
 -- "Admitting a card answers kind, l and m"
@@ -25,10 +24,6 @@ admission limit card = first (readingOrder limit card) (toldBy card)
 abbrev pub saysAdmitted : Admitted → Answer Format
 saysAdmitted (Card f) = given f
 saysAdmitted (NotAdmitted r) = refused (r .number) (r .place)
-
--- entry i of a card, from 0
-unfoldable pub entryAt : List ℕ → ℕ → Entry
-entryAt card i = entryOf (toldBy card .kind) (slotOf card i)
 
 -- "Fetching an entry admits the card first, then tests 14."
 unfoldable pub entryFetch : ℕ → List ℕ → ℕ → Answer Entry

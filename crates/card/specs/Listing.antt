@@ -11,7 +11,7 @@ use Rattle.answers.specs.Answer.{Answer, given, refused, Test, test, first}
 use Rattle.answers.specs.Row.{row}
 use Rattle.entries.specs.declared.Format.{Format}
 use Rattle.card.specs.declared.Admitted.{Admitted}
-use Rattle.card.specs.Layout.{toldBy, slotOf}
+use Rattle.layout.specs.Layout.{toldBy, slotOf}
 use Rattle.card.specs.Reading.{readingOrder}
 use Rattle.card.specs.Fetching.{saysAdmitted}
 

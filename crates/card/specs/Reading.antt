@@ -2,35 +2,18 @@
 -- 2, 3, its entries in turn (10 before 11), 8." It stands here alone; `limit` is the most entries that a card may have.
 -- Assumes nothing.
 use Prim.Native.Nat.{ℕ, _+_}
-use mathlib.Core.Bool.{Bool, _&&_, _||_}
 use mathlib.Core.List.{List, [], _∷_, _++_}
 use lib.ListN.{length}
 use lib.Dec.{leb, eqb}
 use Rattle.answers.specs.Numbers.{Short, Form, Kind, Length, Count, Spare, Size}
-use Rattle.answers.specs.Answer.{Test, test, inTurn}
+use Rattle.answers.specs.Answer.{Test, test}
+use Rattle.answers.specs.Row.{inTurn}
 use Rattle.block.specs.Block.{blockBytes, blockAt, blockTests}
 use Rattle.entries.specs.declared.Format.{Format}
 use Rattle.entries.specs.Slot.{slotAt}
-use Rattle.entries.specs.Fault.{pair, span, leastLength, mostLength, entryTests}
-use Rattle.card.specs.Layout.{formOf, formatOf, toldBy, entryBlocks, sizeOf, entriesBefore, entriesIn, headSpare, slotsSpare}
-
--- "form = 1"
-abbrev pub theForm : ℕ
-theForm = 1
-
--- "A card has m entries, 1 ≤ m ≤ 504."
-abbrev pub leastEntries : ℕ
-leastEntries = 1
-
-abbrev pub mostEntries : ℕ
-mostEntries = 504
-
--- x is from lo up to hi, both included
-abbrev pub isWithin : ℕ → ℕ → ℕ → Bool
-isWithin lo hi x = leb lo x && leb x hi
-
-abbrev pub isKind : ℕ → Bool
-isKind kind = eqb kind pair || eqb kind span
+use Rattle.entries.specs.Fault.{leastLength, mostLength, entryTests}
+use Rattle.layout.specs.Layout.{formOf, formatOf, toldBy, entryBlocks, sizeOf, entriesBefore, entriesIn, headSpare, slotsSpare}
+use Rattle.layout.specs.Bounds.{theForm, leastEntries, isWithin, isKind}
 
 -- block 0: 4, 5, 6, 7, 8
 unfoldable pub fieldTests : ℕ → List ℕ → List Test

@@ -1,11 +1,10 @@
 // The card's reader, over the block layer's promise and the entries': admit a card, fetch an entry, step a reading head, admit into lent
 // lists. No function that the scope names has a `requires`: each tests its own input.
-mod layout;
 pub mod listing;
 mod reading;
 
 ghost use mathlib.Core.Path.{_≡_};
-ghost use Rattle.card.specs.Reading.{mostEntries};
+ghost use Rattle.layout.specs.Bounds.{mostEntries};
 ghost use Rattle.card.specs.Fetching.{admission, saysAdmitted, entryFetch, saysFetched, stepping, saysStepped};
 use answers::Held;
 use answers::Refusal;

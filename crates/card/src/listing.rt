@@ -2,11 +2,10 @@
 ghost use mathlib.Core.Path.{_≡_};
 ghost use Prim.Native.Nat.{_≤_};
 ghost use lib.ListN.{length};
-ghost use Rattle.card.specs.Layout.{sizeOf, slotOf};
-ghost use Rattle.card.specs.Reading.{mostEntries};
+ghost use Rattle.layout.specs.Layout.{sizeOf, slotOf};
+ghost use Rattle.layout.specs.Bounds.{mostEntries};
 ghost use Rattle.card.specs.Listing.{hasRoom, filled, Listed};
 use crate::Admitted;
-use crate::layout;
 use answers::Refusal;
 
 // Whether each of three lists has room for m entries.

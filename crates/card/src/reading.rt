@@ -2,68 +2,42 @@
 ghost use mathlib.Core.Path.{_≡_};
 ghost use Prim.Native.Nat.{_+_, _*_, _≤_};
 ghost use lib.ListN.{length};
-ghost use Rattle.answers.specs.Answer.{first, sound, saysHeld, inTurn};
+ghost use Rattle.answers.specs.Answer.{first, sound, saysHeld};
+ghost use Rattle.answers.specs.Row.{inTurn};
 ghost use Rattle.block.specs.Block.{blockBytes};
 ghost use Rattle.entries.specs.Fault.{mostLength};
-ghost use Rattle.card.specs.Layout.{formatOf, perBlock, entryBlocks, sizeOf};
-ghost use Rattle.card.specs.Reading.{mostEntries, isWithin, isKind, fieldTests, headTests, slotsTests, laterTests, readingOrder};
-use crate::layout;
+ghost use Rattle.layout.specs.Layout.{formatOf, perBlock, entryBlocks, sizeOf};
+ghost use Rattle.layout.specs.Bounds.{mostEntries, isWithin, isKind};
+ghost use Rattle.card.specs.Reading.{fieldTests, headTests, slotsTests, laterTests, readingOrder};
 use answers::Held;
 use answers::Refusal;
 use block::BLOCK;
 use entries::Format;
-
-// What a card's form must be.
-const THE_FORM: u8 = 1;
-// The least and the most entries of a card.
-const LEAST: usize = 1;
-
-const MOST: usize = 504;
-
-// Whether x is from lo up to hi, both included.
-fn is_within(lo: usize, hi: usize, x: usize) -> bool
-    ensures { λ r. ⌜ r ≡ isWithin lo hi x ⌝ }
-{
-    if lo <= x {
-        return x <= hi;
-    }
-    false
-}
-
-// Whether there is such a kind of card.
-fn is_kind(kind: usize) -> bool
-    ensures { λ r. ⌜ r ≡ isKind kind ⌝ }
-{
-    if kind == entries::PAIR {
-        return true;
-    }
-    kind == entries::SPAN
-}
 
 // The fields of block 0: its form, its kind, l, m and its spare bytes.
 fn fields_hold(head: &[u8], f: Format) -> Held
     requires { ⌜ (length (now head) ≡ blockBytes) × (f ≡ formatOf (now head)) ⌝ }
     ensures { λ r. ⌜ saysHeld r ≡ first (fieldTests mostEntries (now (head .entry))) sound ⌝ }
 {
-    if head[0] != THE_FORM {
+    if head[0] != layout::THE_FORM {
         return Held::Refused(Refusal {
             number: answers::FORM,
             place: 0,
         });
     }
-    if !is_kind(f.kind) {
+    if !layout::is_kind(f.kind) {
         return Held::Refused(Refusal {
             number: answers::KIND,
             place: 0,
         });
     }
-    if !is_within(entries::LEAST_LENGTH, entries::MOST_LENGTH, f.l) {
+    if !layout::is_length(f.l) {
         return Held::Refused(Refusal {
             number: answers::LENGTH,
             place: 0,
         });
     }
-    if !is_within(LEAST, MOST, f.m) {
+    if !layout::is_count(f.m) {
         return Held::Refused(Refusal {
             number: answers::COUNT,
             place: 0,
@@ -159,7 +133,7 @@ pub fn card_holds(card: &[u8]) -> Held
         return Held::Refused(r);
     }
     let f = layout::told_by(card);
-    if card.len() != BLOCK * (1 + layout::entry_blocks(f.m)) {
+    if card.len() != layout::size_of(f.m) {
         return Held::Refused(Refusal {
             number: answers::SIZE,
             place: 0,

@@ -3,7 +3,8 @@ ghost use mathlib.Core.Path.{_≡_};
 ghost use Prim.Native.Nat.{_+_, _*_, _^_, _≤_};
 ghost use lib.ListN.{length};
 ghost use Rattle.answers.specs.Answer.{first, sound, saysHeld};
-ghost use Rattle.entries.specs.Slot.{entryBytes, slotAt};
+ghost use Rattle.block.specs.Bytes.{putAt};
+ghost use Rattle.entries.specs.Slot.{entryBytes, slotAt, slotBytes};
 ghost use Rattle.entries.specs.Fault.{isPlace, pairHolds, spanHolds, placesHold, entryTests, mostLength};
 ghost use Rattle.entries.specs.Entry.{placesOf, entryOf};
 use answers::Held;
@@ -77,6 +78,17 @@ pub fn slot_at(part: &[u8], j: usize) -> Slot
     let one = block::two_at(part, at + 4);
     let two = block::two_at(part, at + 6);
     Slot { word, one, two }
+}
+
+// Writes the slot j of a block.
+pub fn put_slot(part: &mut [u8], j: usize, s: Slot)
+    requires { ⌜ entryBytes * j + entryBytes ≤ length (now part) ⌝ }
+    ensures { λ _. ⌜ now (part .exit) ≡ putAt (slotBytes s) (entryBytes * j) (now (part .entry)) ⌝ }
+{
+    let at = ENTRY * j;
+    block::put_four(part, at, s.word);
+    block::put_two(part, at + 4, s.one);
+    block::put_two(part, at + 6, s.two);
 }
 
 // The places that a slot's two numbers stand for on a card of this kind.

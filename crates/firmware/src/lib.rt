@@ -4,7 +4,7 @@
 ghost use mathlib.Core.Path.{_≡_};
 ghost use Rattle.answers.specs.Answer.{first, sound};
 ghost use Rattle.block.specs.Block.{fetchTests};
-ghost use Rattle.card.specs.Reading.{mostEntries};
+ghost use Rattle.layout.specs.Bounds.{mostEntries};
 ghost use Rattle.card.specs.Fetching.{admission, entryFetch, stepping};
 ghost use Rattle.firmware.specs.Flat.{shapeOf, admitAnswer, entryAnswer, bareStep, stepAnswer, heldAnswer, partAnswer};
 use answers::Held;

@@ -5,7 +5,7 @@ use mathlib.Core.Path.{sym, ap, _∙_}
 use native.Mathlib.Omega.{arith}
 use Rattle.answers.specs.Answer.{given}
 use Rattle.entries.specs.declared.Format.{Format}
-use Rattle.card.specs.Reading.{mostEntries}
+use Rattle.layout.specs.Bounds.{mostEntries}
 use Rattle.card.proofs.FetchingLaws.{Admits, told-admitted, told-not-admitted, entry-on-card, entry-found, entry-absent, entry-refused}
 use Rattle.card.proofs.fetch_entry.Statement.{statement}
 use Rattle.card.proofs.fetch_entry.Tie as tie

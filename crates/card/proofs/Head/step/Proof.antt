@@ -6,7 +6,7 @@ use native.Mathlib.Omega.{arith}
 use Rattle.answers.specs.Answer.{given}
 use Rattle.entries.specs.declared.Entry.{Entry}
 use Rattle.entries.specs.declared.Format.{Format}
-use Rattle.card.specs.Reading.{mostEntries}
+use Rattle.layout.specs.Bounds.{mostEntries}
 use Prim.Native.Nat.{_+_}
 use Rattle.card.specs.Fetching.{more}
 use Rattle.card.proofs.FetchingLaws.{Admits, told-admitted, told-not-admitted, entry-on-card, step-more, step-end, step-refused}

@@ -6,7 +6,7 @@ use native.Mathlib.Omega.{arith}
 use lib.ListN.{length}
 use Rattle.entries.specs.declared.Format.{Format}
 use Rattle.card.specs.Listing.{hasRoom}
-use Rattle.card.specs.Reading.{mostEntries}
+use Rattle.layout.specs.Bounds.{mostEntries}
 use Rattle.card.proofs.FetchingLaws.{Admits, told-admitted, told-not-admitted}
 use Rattle.card.proofs.ListingLaws.{Fits, room-fits, listed-refused, listed-no-room, listed-filled}
 use Rattle.card.proofs.listing.admit_into.Statement.{statement}

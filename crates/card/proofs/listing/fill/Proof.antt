@@ -6,7 +6,7 @@ use Prim.Native.Nat.{ℕ, _-_, _≤_}
 use native.Mathlib.Omega.{arith}
 use lib.ListN.{length}
 use Rattle.entries.specs.declared.Slot.{Slot}
-use Rattle.card.specs.Layout.{slotOf}
+use Rattle.layout.specs.Layout.{slotOf}
 use Rattle.card.specs.Listing.{filled}
 use Rattle.card.proofs.ListingLaws.{filled-none, filled-turn, filled-whole}
 use Rattle.card.proofs.listing.fill.Statement.{statement}

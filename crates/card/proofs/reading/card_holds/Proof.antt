@@ -7,7 +7,8 @@ use Rattle.answers.specs.Answer.{given, first, sound}
 use Rattle.answers.proofs.Laws.{told-holds, told-refused}
 use Rattle.entries.specs.declared.Format.{Format}
 use Rattle.entries.specs.Fault.{mostLength}
-use Rattle.card.specs.Reading.{mostEntries, headTests}
+use Rattle.layout.specs.Bounds.{mostEntries}
+use Rattle.card.specs.Reading.{headTests}
 use Rattle.card.proofs.ReadingLaws.{HeadHolds, head-has, reading-stops, size-wrong, reading-goes-on}
 use Rattle.card.proofs.reading.card_holds.Statement.{statement}
 use Rattle.card.proofs.reading.card_holds.Tie as tie
@@ -49,14 +50,8 @@ module _ (c : tie.After-told-by) where
   most : c .told-by .result .m ≤ mostEntries
   most = rw (c .told-by .ensures) (has (c .before) .most)
 
-entry-blocks-requires : tie.Need-entry-blocks-requires
-entry-blocks-requires c κs = most c
-
-add-if1 : tie.Need-add-if1
-add-if1 c = search needs
-
-mul-if1 : tie.Need-mul-if1
-mul-if1 c = omega (arith, most (c .before))
+size-of-requires : tie.Need-size-of-requires
+size-of-requires c κs = most c
 
 returns-2 : tie.Need-returns-2
 returns-2 c =
@@ -81,9 +76,7 @@ card-holds-spec =
     returns
     enum-told
     told-by-requires
-    entry-blocks-requires
-    add-if1
-    mul-if1
+    size-of-requires
     returns-2
     laters-hold-requires
     returns-3)

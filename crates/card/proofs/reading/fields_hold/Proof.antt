@@ -3,10 +3,11 @@
 use borrow.Author.Needs.{needs}
 use mathlib.Core.Path.{_≡_, sym, _∙_}
 use mathlib.Core.Bool.{true}
+use Rattle.answers.proofs.Tests.{failed, passed}
 use Rattle.entries.specs.Fault.{leastLength, mostLength}
-use Rattle.card.specs.Layout.{formOf, formatOf}
-use Rattle.card.specs.Reading.{theForm, leastEntries, mostEntries, isKind, isWithin}
-use Rattle.card.proofs.ReadingLaws.{failed, passed, form-wrong, kind-wrong, length-wrong, count-wrong, not-spare, fields-sound}
+use Rattle.layout.specs.Layout.{formOf, formatOf}
+use Rattle.layout.specs.Bounds.{theForm, leastEntries, mostEntries, isKind, isWithin}
+use Rattle.card.proofs.ReadingLaws.{form-wrong, kind-wrong, length-wrong, count-wrong, not-spare, fields-sound}
 use Rattle.card.proofs.reading.fields_hold.Statement.{statement}
 use Rattle.card.proofs.reading.fields_hold.Tie as tie
 
@@ -35,14 +36,14 @@ module _ (c : tie.Else3) where
   past-kind = c .before .before
 
   letters-ok : isWithin leastLength mostLength (formatOf (start (past-form past-kind) .args .head .now) .l) ≡ true
-  letters-ok = passed (rw (told (past-form past-kind)) at (c .before .is-within .ensures)) (c .if3 .left)
+  letters-ok = passed (rw (told (past-form past-kind)) at (c .before .is-length .ensures)) (c .if3 .left)
 
 module _ (c : tie.Else4) where
   abbrev past-letters : tie.Else3
   past-letters = c .before .before
 
   count-ok : isWithin leastEntries mostEntries (formatOf (start (past-form (past-kind past-letters)) .args .head .now) .m) ≡ true
-  count-ok = passed (rw (told (past-form (past-kind past-letters))) at (c .before .is-within2 .ensures)) (c .if4 .left)
+  count-ok = passed (rw (told (past-form (past-kind past-letters))) at (c .before .is-count .ensures)) (c .if4 .left)
 
 -- ---- the needs
 
@@ -62,23 +63,23 @@ returns-2 c =
     let wrong = failed (rw (told at) at (c .before .is-kind .ensures)) (c .if2 .taken) in
     sym (kind-wrong _ _ (form-ok at) wrong)
 
-is-within-requires : tie.Need-is-within-requires
-is-within-requires c κs = search needs
+is-length-requires : tie.Need-is-length-requires
+is-length-requires c κs = search needs
 
 returns-3 : tie.Need-returns-3
 returns-3 c =
     let at = c .before .before in
-    let wrong = failed (rw (told (past-form at)) at (c .before .is-within .ensures)) (c .if3 .taken) in
+    let wrong = failed (rw (told (past-form at)) at (c .before .is-length .ensures)) (c .if3 .taken) in
     sym (length-wrong _ _ (form-ok (past-form at)) (kind-ok at) wrong)
 
-is-within-requires-2 : tie.Need-is-within-requires-2
-is-within-requires-2 c κs = search needs
+is-count-requires : tie.Need-is-count-requires
+is-count-requires c κs = search needs
 
 returns-4 : tie.Need-returns-4
 returns-4 c =
     let at = c .before .before in
     let kinds = past-kind at in
-    let wrong = failed (rw (told (past-form kinds)) at (c .before .is-within2 .ensures)) (c .if4 .taken) in
+    let wrong = failed (rw (told (past-form kinds)) at (c .before .is-count .ensures)) (c .if4 .taken) in
     sym (count-wrong _ _ (form-ok (past-form kinds)) (kind-ok kinds) (letters-ok at) wrong)
 
 head-spare-requires : tie.Need-head-spare-requires
@@ -108,9 +109,9 @@ fields-hold-spec =
     returns
     is-kind-requires
     returns-2
-    is-within-requires
+    is-length-requires
     returns-3
-    is-within-requires-2
+    is-count-requires
     returns-4
     head-spare-requires
     returns-5

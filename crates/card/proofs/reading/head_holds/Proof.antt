@@ -10,7 +10,8 @@ use Rattle.answers.specs.Answer.{first, sound}
 use Rattle.answers.proofs.Laws.{told-holds, told-refused}
 use Rattle.block.specs.Block.{blockBytes}
 use Rattle.block.proofs.Laws.{block-length}
-use Rattle.card.specs.Reading.{mostEntries, fieldTests}
+use Rattle.layout.specs.Bounds.{mostEntries}
+use Rattle.card.specs.Reading.{fieldTests}
 use Rattle.card.proofs.ReadingLaws.{too-short, head-refused, head-held}
 use Rattle.card.proofs.reading.head_holds.Statement.{statement}
 use Rattle.card.proofs.reading.head_holds.Tie as tie

@@ -10,7 +10,7 @@ use Rattle.answers.specs.Answer.{given, Test, first, sound, saysHeld}
 use Rattle.answers.proofs.Laws.{told-holds, told-refused}
 use Rattle.block.specs.Block.{blockBytes, blockAt, fetchTests}
 use Rattle.block.proofs.Laws.{block-length}
-use Rattle.card.specs.Layout.{entriesBefore, entriesIn, slotsSpare}
+use Rattle.layout.specs.Layout.{entriesBefore, entriesIn, slotsSpare}
 use Rattle.card.specs.Reading.{slotsTests}
 use Rattle.card.proofs.ReadingLaws.{slots-same, spare-same, later-refused, slot-refused, later-sound, later-not-spare}
 use Rattle.card.proofs.reading.later_holds.Statement.{statement}

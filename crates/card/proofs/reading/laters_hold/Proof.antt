@@ -5,10 +5,11 @@ use mathlib.Core.Path.{_≡_, sym, _∙_}
 use mathlib.Core.List.{List}
 use Prim.Native.Nat.{ℕ, _+_, _-_, _≤_}
 use native.Mathlib.Omega.{arith}
-use Rattle.answers.specs.Answer.{first, sound, inTurn}
+use Rattle.answers.specs.Answer.{first, sound}
+use Rattle.answers.specs.Row.{inTurn}
 use Rattle.answers.proofs.Laws.{turn-holds, turn-refused, turns-end, told-holds, told-refused}
 use Rattle.entries.specs.declared.Format.{Format}
-use Rattle.card.specs.Layout.{entryBlocks}
+use Rattle.layout.specs.Layout.{entryBlocks}
 use Rattle.card.specs.Reading.{laterTests}
 use Rattle.card.proofs.reading.laters_hold.Statement.{statement}
 use Rattle.card.proofs.reading.laters_hold.Tie as tie

@@ -5,7 +5,8 @@ use mathlib.Core.Path.{_≡_, sym, _∙_}
 use Prim.Native.Nat.{ℕ, _+_, _-_, _≤_}
 use native.Mathlib.Omega.{arith}
 use mathlib.Core.List.{List}
-use Rattle.answers.specs.Answer.{Test, first, sound, saysHeld, inTurn}
+use Rattle.answers.specs.Answer.{Test, first, sound, saysHeld}
+use Rattle.answers.specs.Row.{inTurn}
 use Rattle.answers.proofs.Laws.{turn-holds, turn-refused, turns-end, told-holds, told-refused}
 use Rattle.entries.specs.declared.Format.{Format}
 use Rattle.entries.specs.Slot.{slotAt}

@@ -1,0 +1,173 @@
+-- The laws of sealed blocks that this crate's proofs and the crates above cite: what is sealed holds and keeps its own bytes, and a block
+-- that holds is what sealing makes of its own bytes. Assumes nothing.
+use mathlib.Core.Path.{_≡_, refl, sym, ap, _∙_}
+use mathlib.Core.Bool.{Bool, true, _&&_}
+use mathlib.Core.List.{List, [], _∷_, _++_, append-assoc, append-nil}
+use Prim.Native.Nat.{ℕ, zero, suc, _+_, _-_, _≤_, _<_}
+use native.Mathlib.Omega.{arith}
+use lib.ListN.{length, getD, take, drop, set, replicate, length-append, length-drop, length-replicate, take-append-drop, drop-of-length-le}
+use lib.Seq.{take-at, drop-at, getD-at, getD-append-add, length-take-le, drop-length, drop-append-le, take-append-le, take-add}
+use lib.Dec.{eqb}
+use borrow.Author.Tests.{eq-eqb, eqb-true}
+use Rattle.answers.specs.Answer.{given, sound, first}
+use Rattle.answers.proofs.Laws.{first-passed}
+use Rattle.answers.proofs.Tests.{both}
+use Rattle.block.specs.declared.Sums.{Sums}
+use Rattle.block.specs.Bytes.{twoAt, twoBytes, putAt, AreBytes}
+use Rattle.block.specs.Check.{sumsOf, checks, checkAt}
+use Rattle.block.specs.Block.{blockBytes, indexAt, indexOf, blockTests}
+use Rattle.block.specs.Sealing.{checked, sealed}
+use Rattle.block.proofs.Laws.{block-sound}
+use Rattle.block.proofs.PutLaws.{length-two, two-read, two-again, drop-two, put-one, put-on, put-next, put-length, put-start, put-whole, put-own}
+
+-- what stands before the check: the own bytes, zeros, and the index
+abbrev spares : List ℕ → List ℕ
+spares own = replicate (indexAt - length own) 0
+
+abbrev body : List ℕ → ℕ → List ℕ
+body own k = own ++ (spares own ++ twoBytes k)
+
+abbrev sums : List ℕ → List ℕ
+sums xs = sumsOf xs .a ∷ sumsOf xs .b ∷ []
+
+module _ (own : List ℕ) (k : ℕ) (fits : length own ≤ indexAt) where
+  length-front : length (own ++ spares own) ≡ indexAt
+  length-front = omega (arith, length-append own (spares own), length-replicate {A = ℕ} (indexAt - length own) 0)
+
+  length-body : length (body own k) ≡ checkAt
+  length-body =
+      omega (
+        arith,
+        length-append own (spares own ++ twoBytes k),
+        length-append (spares own) (twoBytes k),
+        length-replicate {A = ℕ} (indexAt - length own) 0,
+        length-two k,
+      )
+
+  pub length-sealed : length (sealed own k) ≡ blockBytes
+  unfolding sealed checked
+  length-sealed = omega (arith, length-append (body own k) (sums (body own k)), length-body)
+
+  -- the own bytes stand first
+  pub sealed-own : sealed own k ≡ own ++ (spares own ++ twoBytes k ++ sums (body own k))
+  unfolding sealed checked
+  sealed-own = append-assoc own (spares own ++ twoBytes k) (sums (body own k))
+
+  -- with the zeros after them
+  sealed-front : sealed own k ≡ own ++ spares own ++ (twoBytes k ++ sums (body own k))
+  sealed-front =
+      sealed-own
+      ∙ ap (λ (xs : List ℕ). own ++ xs) (append-assoc (spares own) (twoBytes k) (sums (body own k)))
+      ∙ sym (append-assoc own (spares own) (twoBytes k ++ sums (body own k)))
+
+  -- up to the index there are zeros
+  pub sealed-spare : drop (length own) (take indexAt (sealed own k)) ≡ spares own
+  sealed-spare =
+      ap (λ (xs : List ℕ). drop (length own) (take indexAt xs)) sealed-front
+      ∙ ap (drop (length own)) (take-at (own ++ spares own) (twoBytes k ++ sums (body own k)) indexAt length-front)
+      ∙ drop-at own (spares own) (length own) refl
+
+  sealed-index : indexOf (sealed own k) ≡ k
+  unfolding indexOf
+  sealed-index =
+      ap (λ (xs : List ℕ). twoAt xs indexAt) sealed-front ∙ two-read (own ++ spares own) (sums (body own k)) indexAt k length-front
+
+  sealed-checks : checks (sealed own k) ≡ true
+  unfolding checks sealed checked
+  sealed-checks =
+      let xs = body own k in
+      let start : take checkAt (xs ++ sums xs) ≡ xs = take-at xs (sums xs) checkAt length-body in
+      let a : getD (xs ++ sums xs) checkAt 0 ≡ sumsOf xs .a = getD-at xs (sumsOf xs .a) (sumsOf xs .b ∷ []) 0 checkAt length-body in
+      let b : getD (xs ++ sums xs) (checkAt + 1) 0 ≡ sumsOf xs .b = rw length-body at (getD-append-add xs (sums xs) 1 0) in
+      simp (start, a, b, eq-eqb (sumsOf xs .a) (sumsOf xs .a) refl, eq-eqb (sumsOf xs .b) (sumsOf xs .b) refl)
+
+  -- what is sealed as block k holds as block k
+  pub sealed-holds : first (blockTests (sealed own k) k) sound ≡ given sound
+  sealed-holds = block-sound (sealed own k) k sealed-checks sealed-index
+
+-- ---- a block that holds is what sealing makes of its own bytes
+
+module _ (b : List ℕ) (k : ℕ) (whole : length b ≡ blockBytes) (held : first (blockTests b k) sound ≡ given sound) where
+  -- its index and its check are those
+  held-index : indexOf b ≡ k
+  unfolding blockTests
+  held-index = eqb-true _ _ (first-passed _ _ _ _ _ _ (first-passed _ _ _ _ _ _ held .1) .0)
+
+  held-checks : checks b ≡ true
+  unfolding blockTests
+  held-checks = first-passed _ _ _ _ _ _ held .0
+
+  held-sums : drop checkAt b ≡ sums (take checkAt b)
+  unfolding checks
+  held-sums =
+      let xs = take checkAt b in
+      let h = both (eqb (sumsOf xs .a) (getD b checkAt 0)) (eqb (sumsOf xs .b) (getD b (checkAt + 1) 0)) held-checks in
+      let a = eqb-true (sumsOf xs .a) (getD b checkAt 0) (h .0) in
+      let c = eqb-true (sumsOf xs .b) (getD b (checkAt + 1) 0) (h .1) in
+      let rest : drop (checkAt + 2) b ≡ [] = drop-of-length-le b {i = checkAt + 2} (omega arith) in
+      rw (a, c) (drop-two b checkAt (omega arith) ∙ ap (λ (ys : List ℕ). getD b checkAt 0 ∷ getD b (checkAt + 1) 0 ∷ ys) rest)
+
+  module _ (bytes : AreBytes b) (own : List ℕ) (fits : length own ≤ indexAt) where
+    pub sealed-again : own ++ drop (length own) b ≡ b → drop (length own) (take indexAt b) ≡ spares own → sealed own k ≡ b
+    unfolding sealed checked indexOf
+    sealed-again stands zeros =
+        let index : twoBytes k ++ drop checkAt b ≡ drop indexAt b =
+        ap (λ (i : ℕ). twoBytes i ++ drop checkAt b) (sym held-index) ∙ two-again b indexAt bytes (omega arith) in
+        let middle : spares own ++ drop indexAt b ≡ drop (length own) b =
+        ap (λ (xs : List ℕ). xs ++ drop indexAt b) (sym zeros)
+        ∙ sym (drop-append-le (length own) (take indexAt b) (drop indexAt b) (omega (arith, length-take-le indexAt b (omega arith))))
+        ∙ ap (drop (length own)) (take-append-drop indexAt b) in
+        let whole-body : body own k ++ drop checkAt b ≡ b =
+        append-assoc own (spares own ++ twoBytes k) (drop checkAt b)
+        ∙ ap (λ (xs : List ℕ). own ++ xs) (append-assoc (spares own) (twoBytes k) (drop checkAt b))
+        ∙ ap (λ (xs : List ℕ). own ++ (spares own ++ xs)) index
+        ∙ ap (λ (xs : List ℕ). own ++ xs) middle
+        ∙ stands in
+        let front : take checkAt b ≡ body own k =
+        ap (take checkAt) (sym whole-body) ∙ take-at (body own k) (drop checkAt b) checkAt (length-body own k fits) in
+        ap (λ (xs : List ℕ). body own k ++ sums xs) (sym front) ∙ ap (λ (xs : List ℕ). body own k ++ xs) (sym held-sums) ∙ whole-body
+
+-- ---- as the code makes it: the own bytes, zeros, the index, the check
+
+module _ (l : List ℕ) (n k : ℕ) (whole : length l ≡ blockBytes) (fits : n ≤ indexAt) where
+  module _ {l₁ l₂ : List ℕ} (cleared : l₁ ≡ putAt (replicate (indexAt - n) 0) n l) (indexed : l₂ ≡ putAt (twoBytes k) indexAt l₁) where
+    length-own : length (take n l) ≡ n
+    length-own = length-take-le n l (omega arith)
+
+    -- up to the check
+    seal-body : l₂ ≡ putAt (body (take n l) k) 0 l
+    seal-body =
+        let own = take n l in
+        let zeros : List ℕ = replicate (indexAt - n) 0 in
+        let to-index : l₁ ≡ putAt (own ++ zeros) 0 l =
+        cleared ∙ put-on l 0 own (sym (put-own l n (omega arith))) (omega (arith, length-own)) zeros
+        (omega (arith, length-replicate {A = ℕ} (indexAt - n) 0)) in
+        let ends : length (own ++ zeros) ≡ indexAt =
+        omega (arith, length-append own zeros, length-own, length-replicate {A = ℕ} (indexAt - n) 0) in
+        indexed
+        ∙ put-on l 0 (own ++ zeros) to-index (omega (arith, ends)) (twoBytes k) (omega (arith, length-two k))
+        ∙ ap (λ (xs : List ℕ). putAt xs 0 l) (append-assoc own zeros (twoBytes k))
+        ∙ rw length-own
+
+    length-made : length (body (take n l) k) ≡ checkAt
+    length-made = length-body (take n l) k (omega (arith, length-own))
+
+    pub seal-length : length l₂ ≡ blockBytes
+    seal-length = rw seal-body (put-length l (body (take n l) k) 0 (omega (arith, length-made))) ∙ whole
+
+    -- with the check
+    pub seal-made : (s : Sums) → s ≡ sumsOf (take checkAt l₂) → set (set l₂ checkAt (s .a)) (checkAt + 1) (s .b) ≡ sealed (take n l) k
+    unfolding sealed checked
+    seal-made s e =
+        let xs = body (take n l) k in
+        let start : l₂ ≡ xs ++ drop checkAt l = seal-body ∙ put-start l xs ∙ ap (λ (i : ℕ). xs ++ drop i l) length-made in
+        let front : take checkAt l₂ ≡ xs = ap (take checkAt) start ∙ take-at xs (drop checkAt l) checkAt length-made in
+        let made : s ≡ sumsOf xs = e ∙ ap sumsOf front in
+        let one : set l₂ checkAt (s .a) ≡ putAt (xs ++ (s .a ∷ [])) 0 l =
+        put-next l 0 xs seal-body (omega (arith, length-made)) (s .a) (omega arith) in
+        let two : set (set l₂ checkAt (s .a)) (checkAt + 1) (s .b) ≡ putAt (xs ++ (s .a ∷ []) ++ (s .b ∷ [])) 0 l =
+        put-next l 0 (xs ++ (s .a ∷ [])) one (omega (arith, length-append xs (s .a ∷ []), length-made)) (s .b) (omega arith) in
+        two
+        ∙ ap (λ (ys : List ℕ). putAt ys 0 l) (append-assoc xs (s .a ∷ []) (s .b ∷ []))
+        ∙ put-whole l (xs ++ (s .a ∷ s .b ∷ [])) (omega (arith, length-append xs (s .a ∷ s .b ∷ []), length-made))
+        ∙ ap (λ (t : Sums). xs ++ (t .a ∷ t .b ∷ [])) made

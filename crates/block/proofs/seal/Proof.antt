@@ -1,0 +1,70 @@
+-- `block::seal` meets its contract: the own bytes, zeros, the index and the check are what `sealed` is (`seal-made`). Assumes nothing.
+use borrow.Author.Needs.{needs}
+use mathlib.Core.Path.{_≡_}
+use native.Mathlib.Omega.{arith}
+use lib.ListN.{length, length-set, length-take}
+use Rattle.block.specs.Block.{blockBytes}
+use Rattle.block.proofs.SealingLaws.{seal-length, seal-made}
+use Rattle.block.proofs.seal.Statement.{statement}
+use Rattle.block.proofs.seal.Tie as tie
+
+-- where the zeros stand, and where the index does
+module _ (c : tie.After-put-two) where
+  abbrev cleared : tie.After-clear
+  cleared = c .before .before .before .before
+
+  abbrev start : tie.Start
+  start = cleared .before .before .before
+
+  whole : length (c .put-two .last .0) ≡ blockBytes
+  whole = seal-length _ _ _ (start .pre .0) (start .pre .1) (cleared .clear .ensures) (c .put-two .ensures)
+
+clear-requires : tie.Need-clear-requires
+clear-requires c κs = search needs
+
+put-two-requires : tie.Need-put-two-requires
+put-two-requires c κs = search needs
+
+slice-reshare-prefix-sum-up : tie.Need-slice-reshare-prefix-sum-up
+slice-reshare-prefix-sum-up c = search needs
+
+slice-aggregate-sum-up : tie.Need-slice-aggregate-sum-up
+slice-aggregate-sum-up c = simp length-take (omega (arith, whole (c .before .before .before)))
+
+sum-up-requires : tie.Need-sum-up-requires
+sum-up-requires c κs = search needs
+
+slice-write-part : tie.Need-slice-write-part
+slice-write-part c = search needs
+
+add-part : tie.Need-add-part
+add-part c = search needs
+
+slice-write-part-2 : tie.Need-slice-write-part-2
+slice-write-part-2 c = simp length-set (omega (arith, whole (c .before .before .before .before)))
+
+same-length : tie.Need-same-length
+same-length c =
+    let index = c .before .before .before .before in
+    simp length-set (omega (arith, whole index, start index .pre .0))
+
+returns : tie.Need-returns
+returns c =
+    let index = c .before .before .before .before in
+    let zeros = cleared index in
+    seal-made _ _ _ (start index .pre .0) (start index .pre .1) (zeros .clear .ensures) (index .put-two .ensures) _ (c .sum-up .ensures)
+
+pub seal-spec : {M : Type 1} → statement M
+seal-spec =
+    tie.close
+    (tie.spec
+    clear-requires
+    put-two-requires
+    slice-reshare-prefix-sum-up
+    slice-aggregate-sum-up
+    sum-up-requires
+    slice-write-part
+    add-part
+    slice-write-part-2
+    same-length
+    returns)

@@ -1,0 +1,68 @@
+-- The laws of a card's layout that this crate's proofs cite. No contract cites this file. Assumes nothing.
+use mathlib.Core.Path.{_≡_}
+use mathlib.Core.Logic.{_⊎_, inl, inr}
+use mathlib.Core.Bool.{true, false}
+use mathlib.Core.List.{List}
+use Prim.Native.Nat.{ℕ, _+_, _*_, _/_, _≤_, _<_}
+use native.Mathlib.Numerals.{add-one}
+use native.Mathlib.Omega.{arith}
+use lib.ListN.{length, getD, take, drop, drop-of-length-le}
+use lib.Seq.{drop-cons}
+use lib.Dec.{leb, eqb}
+use borrow.Author.Tests.{eq-eqb, ne-eqb, eqb-true, leb-true}
+use Rattle.answers.proofs.Tests.{both, either}
+use Rattle.block.specs.Block.{blockBytes, indexAt}
+use Rattle.entries.specs.declared.Slot.{Slot}
+use Rattle.entries.specs.Fault.{pair, span}
+use Rattle.entries.specs.Entry.{entryOf}
+use Rattle.layout.specs.Bounds.{isWithin, isKind}
+use Rattle.layout.specs.Layout.{toldBy, isZeros, headSpare, perBlock, sizeOf, slotOf, entryAt}
+
+-- ---- zeros, looked at from the front
+
+module _ (l : List ℕ) (i : ℕ) where
+  pub zeros-turn : i < length l → getD l i 0 ≡ 0 → isZeros (drop (i + 1) l) ≡ isZeros (drop i l)
+  zeros-turn h z = rw (add-one, drop-cons l i 0 h, eq-eqb (getD l i 0) 0 z)
+
+  pub zeros-stop : i < length l → (getD l i 0 ≡ 0 → ⊥) → false ≡ isZeros (drop i l)
+  zeros-stop h n = rw (drop-cons l i 0 h, ne-eqb (getD l i 0) 0 n)
+
+  pub zeros-end : length l ≤ i → true ≡ isZeros (drop i l)
+  zeros-end h = rw (drop-of-length-le l h)
+
+-- ---- spare bytes of block 0
+
+module _ (b : List ℕ) where
+  pub head-not-spare : (getD b 3 0 ≡ 0 → ⊥) → false ≡ headSpare b
+  unfolding headSpare
+  head-not-spare n = rw (ne-eqb (getD b 3 0) 0 n)
+
+  pub head-spare-when : getD b 3 0 ≡ 0 → isZeros (drop 6 (take indexAt b)) ≡ headSpare b
+  unfolding headSpare
+  head-spare-when z = rw (eq-eqb (getD b 3 0) 0 z)
+
+-- ---- where an entry stands
+
+-- an entry of the card has its block on it
+pub entry-there : (m e size : ℕ) → e < m → size ≡ sizeOf m → blockBytes * (1 + e / perBlock) + blockBytes ≤ size
+entry-there m e size h s = omega arith
+
+-- what an entry is, by its slot
+pub entry-is : (card : List ℕ) (e : ℕ) {kind : ℕ} {s : Slot} → kind ≡ toldBy card .kind → s ≡ slotOf card e
+    → entryOf kind s ≡ entryAt card e
+unfolding entryAt
+entry-is card e k h = cc
+
+-- ---- numbers within bounds
+
+-- both ends of what is within
+pub within-both : (lo hi x : ℕ) → isWithin lo hi x ≡ true → (lo ≤ x) × (x ≤ hi)
+within-both lo hi x e = let h = both (leb lo x) (leb x hi) e in (leb-true lo x (h .0), leb-true x hi (h .1))
+
+-- a kind fits a byte
+pub kind-below : (kind : ℕ) → isKind kind ≡ true → kind < 256
+kind-below kind e = go (either (eqb kind pair) (eqb kind span) e)
+  where
+    go : (eqb kind pair ≡ true) ⊎ (eqb kind span ≡ true) → kind < 256
+    go (inl h) = omega (arith, eqb-true kind pair h)
+    go (inr h) = omega (arith, eqb-true kind span h)

@@ -1,0 +1,13 @@
+-- `writer::same_length` meets its contract. Assumes nothing.
+use Rattle.writer.proofs.WritingLaws.{lengths-differ, lengths-if}
+use Rattle.writer.proofs.same_length.Statement.{statement}
+use Rattle.writer.proofs.same_length.Tie as tie
+
+returns : tie.Need-returns
+returns c = lengths-if _ _ _ (c .if1 .taken)
+
+returns-2 : tie.Need-returns-2
+returns-2 c = lengths-differ _ _ _ (c .if1 .left)
+
+pub same-length-spec : {M : Type 1} → statement M
+same-length-spec = tie.close (tie.spec returns returns-2)

@@ -1,0 +1,70 @@
+-- Writing a card (01, "What can come back"): "Writing takes kind, l and three lists (words, place one, place two) and tests 5, 6, 13, 7,
+-- entries in turn (10, 11), then 12; it touches only the card's bytes of the output." `limit` is the most entries that a card may have.
+--   formatFor kind l words            == the format of a card of these words: it has as many entries as there are words
+--   slotFrom words ones twos e        == entry e of the lists, as it is stored
+--   sameLength words ones twos        == the lists have one length
+--   listsTests limit f words ones twos    == the tests of the lists, in their order
+--   writing limit kind l words ones twos room    == what the writer answers, where the output has `room` bytes
+--   outputAfter card before answer    == the output after the answer, where it was `before`
+--   Writes …                          == the answer, and every byte of the output afterwards
+-- An entry's fault is the reader's own, `entryTests`. Assumes nothing.
+use mathlib.Core.Path.{_≡_}
+use Prim.Native.Nat.{ℕ}
+use mathlib.Core.Bool.{Bool, _&&_}
+use mathlib.Core.List.{List, [], _∷_, _++_}
+use lib.ListN.{length, getD, drop}
+use lib.Dec.{leb, eqb}
+use Rattle.answers.specs.Numbers.{Kind, Length, Lists, Count, Room}
+use Rattle.answers.specs.Answer.{Answer, given, refused, Test, test, first}
+use Rattle.answers.specs.Row.{inTurn}
+use Rattle.entries.specs.declared.Format.{Format}
+use Rattle.entries.specs.declared.Slot.{Slot}
+use Rattle.entries.specs.Fault.{leastLength, mostLength, entryTests}
+use Rattle.layout.specs.Bounds.{leastEntries, isWithin, isKind}
+use Rattle.layout.specs.Layout.{sizeOf}
+use Rattle.layout.specs.Card.{cardOf}
+use Rattle.writer.specs.declared.Written.{Written}
+use Rattle.writer.specs.declared.Written.the-variants.{Card, Refused}
+
+abbrev pub formatFor : ℕ → ℕ → List ℕ → Format
+formatFor kind l words = record { kind = kind; l = l; m = length words }
+
+unfoldable pub slotFrom : List ℕ → List ℕ → List ℕ → ℕ → Slot
+slotFrom words ones twos e = record { word = getD words e 0; one = getD ones e 0; two = getD twos e 0 }
+
+-- the reverse of "the writer's three lists differ in length"
+abbrev pub sameLength : ℕ → ℕ → ℕ → Bool
+sameLength words ones twos = eqb words ones && eqb words twos
+
+-- 5, 6, 13, 7, entries in turn (10, 11)
+unfoldable pub listsTests : ℕ → Format → List ℕ → List ℕ → List ℕ → List Test
+listsTests limit f words ones twos =
+    test (isKind (f .kind)) Kind 0
+    ∷ test (isWithin leastLength mostLength (f .l)) Length 0
+    ∷ test (sameLength (length words) (length ones) (length twos)) Lists 0
+    ∷ test (isWithin leastEntries limit (f .m)) Count 0
+    ∷ inTurn (λ e. entryTests f e (slotFrom words ones twos e)) 0 (f .m)
+
+-- then 12: "for the writer below the card's size"; "the writer answers the card's length in bytes"
+unfoldable pub writing : ℕ → ℕ → ℕ → List ℕ → List ℕ → List ℕ → ℕ → Answer ℕ
+writing limit kind l words ones twos room =
+    first
+    (listsTests limit (formatFor kind l words) words ones twos ++ (test (leb (sizeOf (length words)) room) Room 0 ∷ []))
+    (sizeOf (length words))
+
+abbrev pub saysWritten : Written → Answer ℕ
+saysWritten (Card n) = given n
+saysWritten (Refused r) = refused (r .number) (r .place)
+
+-- "the card standing at the start of the output"; later bytes are untouched, and on a refusal every byte is
+abbrev pub outputAfter : List ℕ → List ℕ → Answer ℕ → List ℕ
+outputAfter card before (given n) = card ++ drop n before
+outputAfter card before (refused n p) = before
+
+pub record Writes (limit kind l : ℕ) (words ones twos before : List ℕ) (r : Written) (after : List ℕ) : Type 0 where
+  pub answer : saysWritten r ≡ writing limit kind l words ones twos (length before)
+  pub bytes : after
+      ≡ outputAfter
+      (cardOf (formatFor kind l words) (slotFrom words ones twos))
+      before
+      (writing limit kind l words ones twos (length before))

@@ -1,0 +1,180 @@
+// The card's writer, over the layout's promise, the entries' and the block layer's: from a kind, the letters of a word and three lists to a
+// card at the start of a lent output. `write` has no `requires`: it tests its own input.
+ghost use mathlib.Core.Path.{_≡_};
+ghost use Prim.Native.Nat.{_+_, _*_, _≤_, _<_};
+ghost use lib.ListN.{length};
+ghost use Rattle.answers.specs.Answer.{first, sound, saysHeld};
+ghost use Rattle.answers.specs.Row.{inTurn};
+ghost use Rattle.block.specs.Bytes.{putAt};
+ghost use Rattle.block.specs.Block.{blockBytes};
+ghost use Rattle.block.specs.Sealing.{sealed};
+ghost use Rattle.entries.specs.Slot.{entryBytes};
+ghost use Rattle.entries.specs.Fault.{mostLength, entryTests};
+ghost use Rattle.layout.specs.Bounds.{mostEntries};
+ghost use Rattle.layout.specs.Layout.{entryBlocks, sizeOf, entriesBefore, entriesIn};
+ghost use Rattle.layout.specs.Card.{slotsBytes, cardOf};
+ghost use Rattle.writer.specs.Writing.{slotFrom, sameLength, listsTests, Writes};
+use answers::Held;
+use answers::Refusal;
+use block::BLOCK;
+use entries::Format;
+use entries::Slot;
+
+// What writing answers: the card's length in bytes, or the refusal.
+pub enum Written {
+    Card(usize),
+    Refused(Refusal),
+}
+
+// Entry e of the lists, as it is stored.
+fn slot_from(words: &[u32], ones: &[u16], twos: &[u16], e: usize) -> Slot
+    requires { ⌜ (e < length (now words)) × (e < length (now ones)) × (e < length (now twos)) ⌝ }
+    ensures { λ r. ⌜ r ≡ slotFrom (now (words .entry)) (now (ones .entry)) (now (twos .entry)) e ⌝ }
+{
+    Slot {
+        word: words[e],
+        one: ones[e],
+        two: twos[e],
+    }
+}
+
+// Whether three lists have one length.
+fn same_length(words: usize, ones: usize, twos: usize) -> bool
+    ensures { λ r. ⌜ r ≡ sameLength words ones twos ⌝ }
+{
+    if words == ones {
+        return words == twos;
+    }
+    false
+}
+
+// Each entry of the lists in turn.
+fn entries_hold(f: Format, words: &[u32], ones: &[u16], twos: &[u16]) -> Held
+    requires { ⌜ (f .l ≤ mostLength) × (f .m ≤ length (now words)) × (f .m ≤ length (now ones)) × (f .m ≤ length (now twos)) ⌝ }
+    ensures { λ r. ⌜
+        saysHeld r
+        ≡ first (inTurn (λ e. entryTests f e (slotFrom (now (words .entry)) (now (ones .entry)) (now (twos .entry)) e)) 0 (f .m)) sound
+        ⌝ }
+{
+    let mut e = 0;
+    while e < f.m {
+        if let Held::Refused(r) = entries::entry_holds(f, e, slot_from(words, ones, twos, e)) {
+            return Held::Refused(r);
+        }
+        e += 1;
+    }
+    Held::Holds
+}
+
+// The kind, the letters of a word, and the lists, which are to be a card of this format.
+fn lists_hold(f: Format, words: &[u32], ones: &[u16], twos: &[u16]) -> Held
+    requires { ⌜ f .m ≡ length (now words) ⌝ }
+    ensures { λ r. ⌜
+        saysHeld r ≡ first (listsTests mostEntries f (now (words .entry)) (now (ones .entry)) (now (twos .entry))) sound
+        ⌝ }
+{
+    if !layout::is_kind(f.kind) {
+        return Held::Refused(Refusal {
+            number: answers::KIND,
+            place: 0,
+        });
+    }
+    if !layout::is_length(f.l) {
+        return Held::Refused(Refusal {
+            number: answers::LENGTH,
+            place: 0,
+        });
+    }
+    if !same_length(words.len(), ones.len(), twos.len()) {
+        return Held::Refused(Refusal {
+            number: answers::LISTS,
+            place: 0,
+        });
+    }
+    if !layout::is_count(f.m) {
+        return Held::Refused(Refusal {
+            number: answers::COUNT,
+            place: 0,
+        });
+    }
+    entries_hold(f, words, ones, twos)
+}
+
+// Writes n entries of the lists, from entry e on, into a part from its first byte on.
+fn put_slots(part: &mut [u8], words: &[u32], ones: &[u16], twos: &[u16], e: usize, n: usize)
+    requires { ⌜ entryBytes * n ≤ length (now part) ⌝ }
+    requires { ⌜ (e + n ≤ length (now words)) × (e + n ≤ length (now ones)) × (e + n ≤ length (now twos)) ⌝ }
+    ensures { λ _. ⌜
+        now (part .exit)
+        ≡ putAt (slotsBytes (slotFrom (now (words .entry)) (now (ones .entry)) (now (twos .entry))) e n) 0 (now (part .entry))
+        ⌝ }
+{
+    let mut j = 0;
+    while j < n {
+        entries::put_slot(part, j, slot_from(words, ones, twos, e + j));
+        j += 1;
+    }
+}
+
+// Writes block k, which is not block 0, of a card of the lists, which has m entries.
+fn put_later(part: &mut [u8], words: &[u32], ones: &[u16], twos: &[u16], m: usize, k: usize)
+    requires { ⌜ (length (now part) ≡ blockBytes) × (m ≤ mostEntries) × (1 ≤ k) × (k ≤ entryBlocks m) ⌝ }
+    requires { ⌜ (m ≤ length (now words)) × (m ≤ length (now ones)) × (m ≤ length (now twos)) ⌝ }
+    ensures { λ _. ⌜
+        now (part .exit)
+        ≡ sealed (slotsBytes (slotFrom (now (words .entry)) (now (ones .entry)) (now (twos .entry))) (entriesBefore k) (entriesIn m k)) k
+        ⌝ }
+{
+    let n = layout::entries_in(m, k);
+    put_slots(part, words, ones, twos, layout::entries_before(k), n);
+    block::seal(part, entries::ENTRY * n, k as u16);
+}
+
+// Writes a card of this format over all of an output that has its size.
+fn put_card(out: &mut [u8], f: Format, words: &[u32], ones: &[u16], twos: &[u16])
+    requires { ⌜ (f .kind < 256) × (f .l < 256) × (f .m ≤ mostEntries) × (length (now out) ≡ sizeOf (f .m)) ⌝ }
+    requires { ⌜ (f .m ≤ length (now words)) × (f .m ≤ length (now ones)) × (f .m ≤ length (now twos)) ⌝ }
+    ensures { λ _. ⌜ now (out .exit) ≡ cardOf f (slotFrom (now (words .entry)) (now (ones .entry)) (now (twos .entry))) ⌝ }
+{
+    layout::put_head(&mut out[..BLOCK], f);
+    let last = layout::entry_blocks(f.m);
+    let mut k = 1;
+    while k <= last {
+        let at = BLOCK * k;
+        let end = at + BLOCK;
+        put_later(&mut out[at..end], words, ones, twos, f.m, k);
+        k += 1;
+    }
+}
+
+// A card of the lists at the start of the output, with its length; or the refusal, and then no byte of the output differs.
+pub fn write(
+    kind: usize,
+    l: usize,
+    words: &[u32],
+    ones: &[u16],
+    twos: &[u16],
+    out: &mut [u8],
+) -> Written
+    ensures { λ r. ⌜
+        Writes mostEntries kind l (now (words .entry)) (now (ones .entry)) (now (twos .entry)) (now (out .entry)) r (now (out .exit))
+        ⌝ }
+{
+    let f = Format {
+        kind,
+        l,
+        m: words.len(),
+    };
+    if let Held::Refused(r) = lists_hold(f, words, ones, twos) {
+        return Written::Refused(r);
+    }
+    let size = layout::size_of(f.m);
+    if out.len() < size {
+        return Written::Refused(Refusal {
+            number: answers::ROOM,
+            place: 0,
+        });
+    }
+    put_card(&mut out[..size], f, words, ones, twos);
+    Written::Card(size)
+}
