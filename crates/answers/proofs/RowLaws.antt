@@ -4,6 +4,7 @@ use mathlib.Core.List.{List, [], _∷_, _++_, append-assoc, append-nil}
 use Prim.Native.Nat.{ℕ, zero, suc, _+_, _*_, _-_, _<_}
 use native.Mathlib.Omega.{arith}
 use lib.ListN.{length, getD, length-append}
+use lib.Seq.{ext-getD}
 use Rattle.answers.specs.Row.{row, inTurn}
 
 module _ {A : Type 0} (f : ℕ → A) where
@@ -33,6 +34,25 @@ module _ {A : Type 0} (f : ℕ → A) where
   row-more k zero = ap (λ (x : A). x ∷ []) (ap f (omega arith))
   row-more k (suc n) =
       ap (λ (xs : List A). f k ∷ xs) (row-more (suc k) n ∙ ap (λ (x : A). row f (suc k) n ++ (x ∷ [])) (ap f (omega arith)))
+
+  -- elements that are the same one by one
+  pub row-same : (g : ℕ → A) (k n : ℕ) → ((i : ℕ) → i < n → f (k + i) ≡ g (k + i)) → row f k n ≡ row g k n
+  unfolding row
+  row-same g k zero each = refl
+  row-same g k (suc n) each =
+      let z : k + 0 ≡ k = omega arith in
+      let here : f k ≡ g k = rw z at (each 0 (omega arith)) in
+      let later : (i : ℕ) → i < n → f (suc k + i) ≡ g (suc k + i) =
+      λ i h. let next : k + suc i ≡ suc k + i = omega arith in rw next at (each (suc i) (omega arith)) in
+      ap (λ (x : A). x ∷ row f (suc k) n) here ∙ ap (λ (xs : List A). g k ∷ xs) (row-same g (suc k) n later)
+
+-- a list is the row of its elements
+pub row-of : {A : Type 0} (d : A) (xs : List A) → row (λ i. getD xs i d) 0 (length xs) ≡ xs
+row-of d xs =
+    let n : ℕ = length xs in
+    ext-getD d (row (λ i. getD xs i d) 0 n) xs (length-row (λ i. getD xs i d) 0 n) (λ i h.
+    let here : 0 + i ≡ i = omega arith in
+    rw here at (row-at (λ j. getD xs j d) d 0 n i (omega (arith, length-row (λ j. getD xs j d) 0 n))))
 
 -- ---- lists in turn
 

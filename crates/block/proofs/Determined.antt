@@ -16,6 +16,12 @@ use Rattle.block.proofs.two_at.Kinds as two-at
 use Rattle.block.proofs.two_at.Reads as two-at-reads
 use Rattle.block.proofs.four_at.Kinds as four-at
 use Rattle.block.proofs.four_at.Reads as four-at-reads
+use Rattle.block.proofs.put_two.Kinds as put-two
+use Rattle.block.proofs.put_two.Reads as put-two-reads
+use Rattle.block.proofs.put_four.Kinds as put-four
+use Rattle.block.proofs.put_four.Reads as put-four-reads
+use Rattle.block.proofs.seal.Kinds as seal
+use Rattle.block.proofs.seal.Reads as seal-reads
 
 module _ (κs : Lfts 1) where
   -- the companion's answer
@@ -41,3 +47,19 @@ module _ (κs : Lfts 1) where
   pub four-at-one : (a : Dens κs four-at.ps) (r r′ : resT four-at.r κs .Denot) (e e′ : AtExit (endedOf 1 four-at.ps four-at.r) κs)
       → four-at-reads.Post κs a r e → four-at-reads.Post κs a r′ e′ → r ≡ r′
   four-at-one a r r′ e e′ p q = p ∙ sym q
+
+  -- what is written into a part
+  pub put-two-one : (a : Dens κs put-two.ps) (r r′ : resT put-two.r κs .Denot)
+      (e e′ : AtExit (endedOf 1 put-two.ps put-two.r) κs)
+      → put-two-reads.Post κs a r e → put-two-reads.Post κs a r′ e′ → now (e .0) ≡ now (e′ .0)
+  put-two-one a r r′ e e′ p q = p ∙ sym q
+
+  pub put-four-one : (a : Dens κs put-four.ps) (r r′ : resT put-four.r κs .Denot)
+      (e e′ : AtExit (endedOf 1 put-four.ps put-four.r) κs)
+      → put-four-reads.Post κs a r e → put-four-reads.Post κs a r′ e′ → now (e .0) ≡ now (e′ .0)
+  put-four-one a r r′ e e′ p q = p ∙ sym q
+
+  pub seal-one : (a : Dens κs seal.ps) (r r′ : resT seal.r κs .Denot)
+      (e e′ : AtExit (endedOf 1 seal.ps seal.r) κs)
+      → seal-reads.Post κs a r e → seal-reads.Post κs a r′ e′ → now (e .0) ≡ now (e′ .0)
+  seal-one a r r′ e e′ p q = p ∙ sym q

@@ -152,9 +152,6 @@ module _ (l : List ℕ) (n k : ℕ) (whole : length l ≡ blockBytes) (fits : n 
     length-made : length (body (take n l) k) ≡ checkAt
     length-made = length-body (take n l) k (omega (arith, length-own))
 
-    pub seal-length : length l₂ ≡ blockBytes
-    seal-length = rw seal-body (put-length l (body (take n l) k) 0 (omega (arith, length-made))) ∙ whole
-
     -- with the check
     pub seal-made : (s : Sums) → s ≡ sumsOf (take checkAt l₂) → set (set l₂ checkAt (s .a)) (checkAt + 1) (s .b) ≡ sealed (take n l) k
     unfolding sealed checked

@@ -5,22 +5,23 @@ use mathlib.Core.List.{List, [], _∷_, _++_}
 use Prim.Native.Nat.{ℕ, suc, _+_, _≤_, _<_}
 use native.Mathlib.Numerals.{add-one}
 use native.Mathlib.Omega.{arith}
-use lib.ListN.{length, drop, set}
-use lib.Seq.{drop-cons, set-at, append-snoc}
+use lib.ListN.{length, take, drop, set}
+use lib.Seq.{drop-cons, set-at, append-snoc, take-at}
 use lib.Dec.{leb}
 use borrow.Author.Tests.{le-leb, lt-leb, leb-true}
 use Rattle.answers.specs.declared.Refusal.{Refusal}
 use Rattle.answers.specs.Numbers.{Room}
-use Rattle.answers.specs.Answer.{given, refused, sound}
+use Rattle.answers.specs.Answer.{given, refused, sound, first}
 use Rattle.answers.specs.Row.{row}
-use Rattle.answers.proofs.Laws.{first-fail, first-last, first-holds, first-refused, first-refused-any}
+use Rattle.answers.proofs.Laws.{first-fail, first-last, first-holds, first-refused, first-both, first-value, first-given-any, first-refused-any}
 use Rattle.answers.proofs.RowLaws.{length-row, row-none, row-more}
 use Rattle.answers.proofs.Tests.{both}
 use Rattle.entries.specs.declared.Format.{Format}
+use Rattle.card.specs.declared.Admitted.{Admitted}
 use Rattle.card.specs.declared.Admitted.the-variants.{Card, Refused}
 use Rattle.layout.specs.Layout.{toldBy, slotOf}
 use Rattle.card.specs.Reading.{readingOrder}
-use Rattle.card.specs.Fetching.{admission}
+use Rattle.card.specs.Fetching.{admission, saysAdmitted}
 use Rattle.card.specs.Listing.{hasRoom, listTests, listing, filled, Listed}
 use Rattle.card.proofs.FetchingLaws.{Admits}
 
@@ -112,3 +113,35 @@ module _ (limit : ℕ) (card words ones twos : List ℕ) where
     listed-filled h w o t =
         let e = listing-given h in
         record { answer = sym e; in-words = rw e w; in-ones = rw e o; in-twos = rw e t }
+
+-- ---- what the lists hold once a card is admitted into them
+
+-- the numbers at the start of a list that was filled
+pub filled-start : (numberOf : ℕ → ℕ) (m : ℕ) (before : List ℕ) → take m (filled numberOf m before) ≡ row numberOf 0 m
+unfolding filled
+filled-start numberOf m before = take-at (row numberOf 0 m) (drop m before) m (length-row numberOf 0 m)
+
+pub filled-with : (numberOf : ℕ → ℕ) (m : ℕ) (before xs : List ℕ) → row numberOf 0 m ≡ xs → filled numberOf m before ≡ xs ++ drop m before
+unfolding filled
+filled-with numberOf m before xs e = ap (λ (ys : List ℕ). ys ++ drop m before) e
+
+module _ {limit : ℕ} {card words ones twos words′ ones′ twos′ : List ℕ} {r : Admitted} {f : Format}
+    (did : Listed limit card words ones twos r words′ ones′ twos′) (said : saysAdmitted r ≡ given f) where
+  listing-said : listing limit card words ones twos ≡ given f
+  listing-said = sym (did .answer) ∙ said
+
+  pub listed-admitted : admission limit card ≡ given f
+  unfolding admission listing listTests
+  listed-admitted =
+      let parts = first-both _ _ (readingOrder limit card) _ listing-said in
+      first-given-any (readingOrder limit card) sound sound (toldBy card) (parts .0)
+      ∙ ap given (first-value (listTests limit card words ones twos) (toldBy card) f listing-said)
+
+  pub listed-words : take (f .m) words′ ≡ row (λ e. slotOf card e .word) 0 (f .m)
+  listed-words = ap (take (f .m)) (rw listing-said at (did .in-words)) ∙ filled-start (λ e. slotOf card e .word) (f .m) words
+
+  pub listed-ones : take (f .m) ones′ ≡ row (λ e. slotOf card e .one) 0 (f .m)
+  listed-ones = ap (take (f .m)) (rw listing-said at (did .in-ones)) ∙ filled-start (λ e. slotOf card e .one) (f .m) ones
+
+  pub listed-twos : take (f .m) twos′ ≡ row (λ e. slotOf card e .two) 0 (f .m)
+  listed-twos = ap (take (f .m)) (rw listing-said at (did .in-twos)) ∙ filled-start (λ e. slotOf card e .two) (f .m) twos

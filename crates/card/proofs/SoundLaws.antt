@@ -15,7 +15,8 @@ use Rattle.entries.specs.Slot.{slotAt}
 use Rattle.entries.specs.Fault.{leastLength, mostLength, entryTests}
 use Rattle.layout.specs.Bounds.{theForm, leastEntries, isWithin, isKind}
 use Rattle.layout.specs.Layout.{formOf, formatOf, toldBy, perBlock, entryBlocks, sizeOf, entriesBefore, entriesIn, slotOf, headSpare, slotsSpare}
-use Rattle.layout.proofs.AgainLaws.{Laid, slot-in-block}
+use Rattle.layout.proofs.LaidLaws.{Laid}
+use Rattle.layout.proofs.AgainLaws.{slot-in-block}
 use Rattle.card.specs.Reading.{fieldTests, headTests, slotsTests, laterTests, readingOrder}
 use Rattle.card.proofs.ReadingLaws.{fields-sound}
 

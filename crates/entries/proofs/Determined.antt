@@ -2,11 +2,14 @@
 -- read from the source. Assumes nothing.
 use mathlib.Core.Path.{_≡_, sym, _∙_}
 use contract.Lifetimes.{Lfts}
+use denote.Ref.{now}
 use denote.Triple.Clauses.{AtExit}
 use borrow.Fn.Kinds.{Dens, resT, endedOf}
 use Rattle.answers.proofs.Laws.{held-one}
 use Rattle.entries.proofs.slot_at.Kinds as slot-at
 use Rattle.entries.proofs.slot_at.Reads as slot-at-reads
+use Rattle.entries.proofs.put_slot.Kinds as put-slot
+use Rattle.entries.proofs.put_slot.Reads as put-slot-reads
 use Rattle.entries.proofs.entry_of.Kinds as entry-of
 use Rattle.entries.proofs.entry_of.Reads as entry-of-reads
 use Rattle.entries.proofs.entry_holds.Kinds as entry-holds
@@ -16,6 +19,10 @@ module _ (κs : Lfts 1) where
   pub slot-at-one : (a : Dens κs slot-at.ps) (r r′ : resT slot-at.r κs .Denot) (e e′ : AtExit (endedOf 1 slot-at.ps slot-at.r) κs)
       → slot-at-reads.Post κs a r e → slot-at-reads.Post κs a r′ e′ → r ≡ r′
   slot-at-one a r r′ e e′ p q = p ∙ sym q
+
+  pub put-slot-one : (a : Dens κs put-slot.ps) (r r′ : resT put-slot.r κs .Denot) (e e′ : AtExit (endedOf 1 put-slot.ps put-slot.r) κs)
+      → put-slot-reads.Post κs a r e → put-slot-reads.Post κs a r′ e′ → now (e .0) ≡ now (e′ .0)
+  put-slot-one a r r′ e e′ p q = p ∙ sym q
 
 module _ (κs : Lfts 0) where
   pub entry-of-one : (a : Dens κs entry-of.ps) (r r′ : resT entry-of.r κs .Denot) (e e′ : AtExit (endedOf 0 entry-of.ps entry-of.r) κs)

@@ -1,7 +1,8 @@
--- Each exported contract determines the outcome: two results that both meet it at the same input are equal. `Post` is the contract as it
--- is read from the source. Assumes nothing.
+-- Each exported contract determines the outcome: two results, with what a lent output holds afterwards, that both meet it at the same input
+-- are equal. `Post` is the contract as it is read from the source. Assumes nothing.
 use mathlib.Core.Path.{_≡_, sym, _∙_}
 use contract.Lifetimes.{Lfts}
+use denote.Ref.{now}
 use denote.Triple.Clauses.{AtExit}
 use borrow.Fn.Kinds.{Dens, resT, endedOf}
 use Rattle.firmware.proofs.belfrymist_admit.Kinds as admit
@@ -14,6 +15,8 @@ use Rattle.firmware.proofs.belfrymist_companion.Kinds as companion
 use Rattle.firmware.proofs.belfrymist_companion.Reads as companion-reads
 use Rattle.firmware.proofs.belfrymist_fetch.Kinds as fetch
 use Rattle.firmware.proofs.belfrymist_fetch.Reads as fetch-reads
+use Rattle.firmware.proofs.writing.belfrymist_write.Kinds as write
+use Rattle.firmware.proofs.writing.belfrymist_write.Reads as write-reads
 
 module _ (κs : Lfts 1) where
   -- what admitting answers
@@ -40,3 +43,8 @@ module _ (κs : Lfts 1) where
   pub fetch-one : (a : Dens κs fetch.ps) (r r′ : resT fetch.r κs .Denot) (e e′ : AtExit (endedOf 1 fetch.ps fetch.r) κs)
       → fetch-reads.Post κs a r e → fetch-reads.Post κs a r′ e′ → r ≡ r′
   fetch-one a r r′ e e′ p q = p ∙ sym q
+
+-- what writing answers, and the output afterwards
+pub write-one : (κs : Lfts 4) (a : Dens κs write.ps) (r r′ : resT write.r κs .Denot) (e e′ : AtExit (endedOf 4 write.ps write.r) κs)
+    → write-reads.Post κs a r e → write-reads.Post κs a r′ e′ → (r ≡ r′) × (now (e .1 .1 .1 .1 .1 .0) ≡ now (e′ .1 .1 .1 .1 .1 .0))
+write-one κs a r r′ e e′ p q = (p .0 ∙ sym (q .0), p .1 ∙ sym (q .1))

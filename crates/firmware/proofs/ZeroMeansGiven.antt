@@ -8,7 +8,9 @@ use Rattle.block.specs.Block.{fetchTests}
 use Rattle.block.proofs.Laws.{fetch-numbered}
 use Rattle.card.specs.Fetching.{admission, entryFetch, stepping}
 use Rattle.card.proofs.RefusalNumbers.{admission-number, entry-number, step-number}
-use Rattle.firmware.specs.Flat.{admitAnswer, entryAnswer, stepAnswer, heldAnswer}
+use Rattle.writer.specs.Writing.{writing}
+use Rattle.writer.proofs.RefusalNumbers.{writing-number}
+use Rattle.firmware.specs.Flat.{admitAnswer, entryAnswer, stepAnswer, heldAnswer, writeAnswer}
 
 module _ (limit : ℕ) (card : List ℕ) {n p : ℕ} where
   pub admit-tells : admission limit card ≡ refused n p → 0 < admitAnswer (admission limit card) .number
@@ -23,3 +25,7 @@ module _ (limit : ℕ) (card : List ℕ) {n p : ℕ} where
 module _ (card : List ℕ) (k : ℕ) {n p : ℕ} where
   pub companion-tells : first (fetchTests card k) sound ≡ refused n p → 0 < heldAnswer (first (fetchTests card k) sound) .number
   companion-tells e = rw e (numbered-refused (fetch-numbered card k) sound e)
+
+pub write-tells : (limit kind l : ℕ) (words ones twos : List ℕ) (room : ℕ) {n p : ℕ} → writing limit kind l words ones twos room ≡ refused n p
+    → 0 < writeAnswer (writing limit kind l words ones twos room) .number
+write-tells limit kind l words ones twos room e = rw e (writing-number limit kind l words ones twos room e)

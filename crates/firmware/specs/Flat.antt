@@ -6,6 +6,7 @@
 --   stepAnswer r       == a step of the reading head: the entry and the moved head, or the end
 --   heldAnswer r       == the companion of a fetch
 --   partAnswer k r     == fetching block k: where in the card it starts, and its bytes
+--   writeAnswer r      == writing: the card's length
 -- Assumes nothing.
 use Prim.Native.Nat.{ℕ, _*_}
 use Rattle.answers.specs.Answer.{Answer, given, refused, Sound, sound}
@@ -21,6 +22,7 @@ use Rattle.firmware.specs.declared.EntryAnswer.{EntryAnswer}
 use Rattle.firmware.specs.declared.StepAnswer.{StepAnswer}
 use Rattle.firmware.specs.declared.HeldAnswer.{HeldAnswer}
 use Rattle.firmware.specs.declared.PartAnswer.{PartAnswer}
+use Rattle.firmware.specs.declared.writing.WriteAnswer.{WriteAnswer}
 
 -- "one place, two places, or a span"
 abbrev pub shapeOf : Places → Shape
@@ -59,3 +61,8 @@ heldAnswer (refused n p) = record { number = n; place = p }
 abbrev pub partAnswer : ℕ → Answer Sound → PartAnswer
 partAnswer k (given sound) = record { at = blockBytes * k; length = blockBytes }
 partAnswer k (refused n p) = record { at = 0; length = 0 }
+
+-- "the writer answers the card's length in bytes"
+abbrev pub writeAnswer : Answer ℕ → WriteAnswer
+writeAnswer (given n) = record { number = 0; place = 0; length = n }
+writeAnswer (refused n p) = record { number = n; place = p; length = 0 }

@@ -1,6 +1,8 @@
-// The boundary to C: the operations of the block layer and of the card's reader as exported functions. A lent card goes in as a slice, and
-// a struct of numbers comes back. No function has a `requires`: each operation tests its own input. The names that C sees begin with the
-// project's.
+// The boundary to C: the operations of the block layer, of the card's reader and of its writer as exported functions. Numbers and slices go
+// in, and a struct of numbers comes back. No function has a `requires`: each operation tests its own input. The names that C sees begin with
+// the project's.
+pub mod writing;
+
 ghost use mathlib.Core.Path.{_≡_};
 ghost use Rattle.answers.specs.Answer.{first, sound};
 ghost use Rattle.block.specs.Block.{fetchTests};

@@ -26,6 +26,7 @@ use Rattle.layout.specs.Bounds.{theForm}
 use Rattle.layout.specs.Layout.{formOf, formatOf, toldBy, perBlock, entryBlocks, sizeOf, entriesBefore, entriesIn, slotOf, isZeros, headSpare, slotsSpare}
 use Rattle.layout.specs.Card.{headBytes, slotsBytes, ownBytes, blocksOf, cardOf}
 use Rattle.layout.proofs.ZerosLaws.{are-zeros}
+use Rattle.layout.proofs.LaidLaws.{Laid}
 use Rattle.layout.proofs.CardLaws.{length-head, length-slots, slots-same, own-head, own-later}
 
 -- zeros up to the index
@@ -89,15 +90,6 @@ slot-in-block card k j h g =
     let block : 1 + (entriesBefore k + j) / perBlock ≡ k = omega arith in
     let slot : (entriesBefore k + j) % perBlock ≡ j = omega arith in
     rw (block, slot)
-
--- a card that is laid out as it must be: its size, its blocks, its form, and what must be zero
-pub record Laid (card : List ℕ) : Type 0 where
-  pub size : length card ≡ sizeOf (toldBy card .m)
-  pub blocks : (k : ℕ) → k ≤ entryBlocks (toldBy card .m) → first (blockTests (blockAt card k) k) sound ≡ given sound
-  pub form : formOf (blockAt card 0) ≡ theForm
-  pub head-spare : headSpare (blockAt card 0) ≡ true
-  pub later-spare : (k : ℕ) → 1 ≤ k → k ≤ entryBlocks (toldBy card .m)
-      → slotsSpare (blockAt card k) (entriesIn (toldBy card .m) k) ≡ true
 
 module _ (card : List ℕ) (bytes : AreBytes card) (has : Laid card) where
   abbrev m : ℕ

@@ -127,17 +127,11 @@ module _ (l : List ℕ) (f : Format) (whole : length l ≡ blockBytes) {l₁ : L
         put
         ∙ put-on l 0 (theForm ∷ f .kind ∷ f .l ∷ 0 ∷ []) {to = 4} four (omega arith) (twoBytes (f .m)) (omega (arith, length-two (f .m)))
 
-    pub head-put-length : length l₁ ≡ blockBytes
-    head-put-length = rw head-put (put-length l (headBytes f) 0 (omega (arith, length-head f))) ∙ whole
-
     pub head-made : {l₂ : List ℕ} → l₂ ≡ sealed (take 6 l₁) 0 → l₂ ≡ sealed (headBytes f) 0
     head-made e =
         let front : take 6 l₁ ≡ headBytes f =
         ap (take 6) (head-put ∙ put-start l (headBytes f)) ∙ take-at (headBytes f) _ 6 (length-head f) in
         e ∙ ap (λ (own : List ℕ). sealed own 0) front
-
-    pub head-made-length : {l₂ : List ℕ} → l₂ ≡ sealed (take 6 l₁) 0 → length l₂ ≡ blockBytes
-    head-made-length e = length-head-block f (head-made e)
 
 -- ---- what a later block says
 

@@ -1,5 +1,15 @@
 // The fields of a record, read from standard input, little-endian.
+ghost use Prim.Native.Nat.{_*_, _≤_};
+ghost use lib.ListN.{length};
+ghost use Rattle.vectors.specs.Lists.{slots, wordBytes, placeBytes};
 use libc::STDIN_FILENO;
+
+// The most slots of a list, and the bytes of a word and of a place.
+pub const SLOTS: usize = 600;
+
+const WORD: usize = 4;
+
+const PLACE: usize = 2;
 
 // What stands where a record may begin: its tag, or the end of the input.
 pub enum Tag {
@@ -49,4 +59,52 @@ pub fn eight() -> Field {
     let low = block::four_at(&bytes, 0) as usize;
     let high = block::four_at(&bytes, 4) as usize;
     Field::Is(low + 4294967296 * high)
+}
+
+// Fills the bytes from the input, takes the words of the list out of them, and answers whether the input has as many bytes.
+fn take_words(bytes: &mut [u8], list: &mut [u32]) -> bool
+    requires { ⌜ wordBytes * length (now list) ≤ length (now bytes) ⌝ }
+{
+    if io::read_full(STDIN_FILENO, bytes) < bytes.len() {
+        return false;
+    }
+    let mut i = 0;
+    while i < list.len() {
+        list[i] = block::four_at(bytes, WORD * i);
+        i += 1;
+    }
+    true
+}
+
+// Fills the bytes from the input, takes the places of the list out of them, and answers whether the input has as many bytes.
+fn take_places(bytes: &mut [u8], list: &mut [u16]) -> bool
+    requires { ⌜ placeBytes * length (now list) ≤ length (now bytes) ⌝ }
+{
+    if io::read_full(STDIN_FILENO, bytes) < bytes.len() {
+        return false;
+    }
+    let mut i = 0;
+    while i < list.len() {
+        list[i] = block::two_at(bytes, PLACE * i);
+        i += 1;
+    }
+    true
+}
+
+// Reads as many words as the list has slots, and answers whether the input has them.
+pub fn words(list: &mut [u32]) -> bool
+    requires { ⌜ length (now list) ≤ slots ⌝ }
+{
+    let mut bytes = [0u8; WORD * SLOTS];
+    let n = WORD * list.len();
+    take_words(&mut bytes[..n], list)
+}
+
+// Reads as many places as the list has slots, and answers whether the input has them.
+pub fn places(list: &mut [u16]) -> bool
+    requires { ⌜ length (now list) ≤ slots ⌝ }
+{
+    let mut bytes = [0u8; PLACE * SLOTS];
+    let n = PLACE * list.len();
+    take_places(&mut bytes[..n], list)
 }

@@ -1,8 +1,9 @@
 // A line of output, put together in a buffer and written by one call.
 ghost use mathlib.Core.Path.{_≡_};
-ghost use Prim.Native.Nat.{_+_, _≤_};
+ghost use Prim.Native.Nat.{_+_, _*_, _≤_};
 ghost use lib.ListN.{length};
 ghost use Rattle.vectors.specs.Line.{lineBytes, digits};
+use answers::Refusal;
 
 // The most bytes of a line, and of a number.
 const LINE: usize = 160;
@@ -49,6 +50,16 @@ impl Line {
         let mut out = [0u8; DIGITS];
         let k = io::decimal(x as u64, &mut out);
         self.text(b" ").text(&out[..k])
+    }
+
+    // A refusal: its number and its place.
+    pub fn refused(r: Refusal) -> Line
+        ensures { λ l. ⌜ l .n ≤ 7 + 2 * (1 + digits) ⌝ }
+    {
+        Line::new()
+            .text(b"refused")
+            .number(r.number)
+            .number(r.place)
     }
 
     // Writes the line and its end to standard output.

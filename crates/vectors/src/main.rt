@@ -8,12 +8,20 @@
 //     F k          its companion        `holds`
 //     L a b c      admit into lists of a words, b places one and c places two (two bytes each)
 //                                       `lists KIND L M X Y Z`, with the hash of each list afterwards
-// A call that refuses prints `refused N P`, for L with the three hashes after it. PLACES is `one P`, `two P Q` or `span F G`. i, `at` and k
-// have eight bytes. A record that is none of these, or is cut, ends the run with the line `bad record`.
+//     W kind l a b c room words ones twos
+//                  write a card of a words (four bytes each), b places one and c places two (two bytes each) into an output of
+//                  `room` bytes, each of which holds 165 before the call
+//                                       `written LENGTH HASH`, with the hash of the whole output afterwards
+//     R room       admit into lists of 600 slots, and write the card of their first m slots again, into such an output
+//                                       the line of W
+// A call that refuses prints `refused N P`, for L with the three hashes after it, for W and R with the output's. PLACES is `one P`,
+// `two P Q` or `span F G`. i, `at`, k, kind and l have eight bytes; a, b, c and `room` have two, and are at most 600 and 6,400. A record
+// that is none of these, or is cut, ends the run with the line `bad record`.
 mod fields;
 mod hashes;
 mod lines;
 mod records;
+mod writing;
 
 ghost use mathlib.Core.Path.{_≡_};
 ghost use Prim.Native.Nat.{_≤_};

@@ -3,10 +3,11 @@ ghost use Prim.Native.Nat.{_+_, _*_, _≤_};
 ghost use Rattle.vectors.specs.Line.{lineBytes, digits};
 use crate::fields;
 use crate::fields::Field;
+use crate::fields::SLOTS;
 use crate::hashes;
 use crate::lines::Line;
+use crate::writing;
 use answers::Held;
-use answers::Refusal;
 use card::Admitted;
 use card::EntryFetch;
 use card::Head;
@@ -15,22 +16,10 @@ use entries::Entry;
 use entries::Format;
 use entries::Places;
 
-// The most slots of a list, and what stands in each before the call.
-const SLOTS: usize = 600;
-
+// What stands in each slot of a list before the call.
 const OLD_WORD: u32 = 305419896;
 
 const OLD_PLACE: u16 = 4660;
-
-// A refusal: its number and its place.
-fn refused(r: Refusal) -> Line
-    ensures { λ l. ⌜ l .n ≤ 7 + 2 * (1 + digits) ⌝ }
-{
-    Line::new()
-        .text(b"refused")
-        .number(r.number)
-        .number(r.place)
-}
 
 // A card: its kind, l and m.
 fn told(line: Line, f: Format) -> Line
@@ -57,14 +46,14 @@ fn entry(line: Line, e: Entry) -> Line
 fn admit(card: &[u8]) {
     match card::admit(card) {
         Admitted::Card(f) => told(Line::new().text(b"admit"), f).print(),
-        Admitted::Refused(r) => refused(r).print(),
+        Admitted::Refused(r) => Line::refused(r).print(),
     }
 }
 
 fn fetch_entry(card: &[u8], i: usize) {
     match card::fetch_entry(card, i) {
         EntryFetch::Found(e) => entry(Line::new().text(b"entry"), e).print(),
-        EntryFetch::Refused(r) => refused(r).print(),
+        EntryFetch::Refused(r) => Line::refused(r).print(),
     }
 }
 
@@ -73,7 +62,7 @@ fn step(card: &[u8], at: usize) {
     match head.step(card) {
         Stepped::More(e, next) => entry(Line::new().text(b"step"), e).number(next.at).print(),
         Stepped::End => Line::new().text(b"end").print(),
-        Stepped::Refused(r) => refused(r).print(),
+        Stepped::Refused(r) => Line::refused(r).print(),
     }
 }
 
@@ -89,7 +78,7 @@ fn fetch(card: &[u8], k: usize) {
 fn companion(card: &[u8], k: usize) {
     match block::companion(card, k) {
         Held::Holds => Line::new().text(b"holds").print(),
-        Held::Refused(r) => refused(r).print(),
+        Held::Refused(r) => Line::refused(r).print(),
     }
 }
 
@@ -99,7 +88,7 @@ fn listed(a: Admitted) -> Line
 {
     match a {
         Admitted::Card(f) => told(Line::new().text(b"lists"), f),
-        Admitted::Refused(r) => refused(r),
+        Admitted::Refused(r) => Line::refused(r),
     }
 }
 
@@ -169,6 +158,8 @@ pub fn answer(tag: u8, card: &[u8]) -> bool {
             true
         }
         b'L' => lists(card),
+        b'W' => writing::of_lists(),
+        b'R' => writing::again(card),
         _ => numbered(tag, card),
     }
 }

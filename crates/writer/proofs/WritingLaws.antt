@@ -11,15 +11,16 @@ use Rattle.answers.specs.declared.Refusal.{Refusal}
 use Rattle.answers.specs.Numbers.{Kind, Length, Lists, Count, Room}
 use Rattle.answers.specs.Answer.{given, refused, sound, first}
 use Rattle.answers.specs.Row.{inTurn}
-use Rattle.answers.proofs.Laws.{first-pass, first-fail, first-last, first-passed, first-holds, first-refused}
+use Rattle.answers.proofs.Laws.{first-pass, first-fail, first-last, first-passed, first-holds, first-refused, first-both, first-value}
 use Rattle.answers.proofs.Tests.{both}
 use Rattle.entries.specs.declared.Format.{Format}
 use Rattle.entries.specs.Fault.{leastLength, mostLength, entryTests}
 use Rattle.layout.specs.Bounds.{leastEntries, isWithin, isKind}
 use Rattle.layout.specs.Layout.{sizeOf}
 use Rattle.layout.specs.Card.{cardOf}
+use Rattle.writer.specs.declared.Written.{Written}
 use Rattle.writer.specs.declared.Written.the-variants.{Card, Refused}
-use Rattle.writer.specs.Writing.{formatFor, slotFrom, sameLength, listsTests, writing, outputAfter, Writes}
+use Rattle.writer.specs.Writing.{formatFor, slotFrom, sameLength, listsTests, writing, saysWritten, outputAfter, Writes}
 
 -- ---- three lengths
 
@@ -93,6 +94,14 @@ lists-accepted limit f words ones twos e =
       entries = count .1;
     }
 
+-- and lists that have that are accepted
+pub accepted-lists : {limit : ℕ} {f : Format} {words ones twos : List ℕ} → Accepted limit f words ones twos
+    → first (listsTests limit f words ones twos) sound ≡ given sound
+accepted-lists {limit} {f} {words} {ones} {twos} has =
+    let same : sameLength (length words) (length ones) (length twos) ≡ true =
+    rw (eq-eqb (length words) (length ones) (has .as-ones)) (eq-eqb (length words) (length twos) (has .as-twos)) in
+    sym (lists-go-on limit f words ones twos (has .kind) (has .letters) same (has .count)) ∙ has .entries
+
 -- ---- the three outcomes
 
 module _ (limit kind l : ℕ) (words ones twos before : List ℕ) where
@@ -110,10 +119,13 @@ module _ (limit kind l : ℕ) (words ones twos before : List ℕ) where
   lists-refused e = untouched (first-refused _ _ (listsTests limit format words ones twos) e)
 
   module _ (accepted : first (listsTests limit format words ones twos) sound ≡ given sound) where
+    room-refused : length before < sizeOf (length words) → writing limit kind l words ones twos (length before) ≡ refused Room 0
+    unfolding writing
+    room-refused h = first-holds _ _ (listsTests limit format words ones twos) accepted ∙ first-fail _ _ _ _ _ (lt-leb _ _ h)
+
     pub no-room : length before < sizeOf (length words)
         → Writes limit kind l words ones twos before (Refused (record { number = Room; place = 0 })) before
-    unfolding writing
-    no-room h = untouched (first-holds _ _ (listsTests limit format words ones twos) accepted ∙ first-fail _ _ _ _ _ (lt-leb _ _ h))
+    no-room h = untouched (room-refused h)
 
     pub card-given : sizeOf (length words) ≤ length before
         → writing limit kind l words ones twos (length before) ≡ given (sizeOf (length words))
@@ -126,3 +138,38 @@ module _ (limit kind l : ℕ) (words ones twos before : List ℕ) where
     card-written {n} {after} size h e =
         let says : writing limit kind l words ones twos (length before) ≡ given n = card-given (omega arith) ∙ ap given (sym size) in
         record { answer = sym says; bytes = rw says e }
+
+-- ---- what an answer says
+
+module _ {limit kind l : ℕ} {words ones twos before after : List ℕ} {r : Written} {n : ℕ}
+    (did : Writes limit kind l words ones twos before r after) (said : saysWritten r ≡ given n) where
+  writing-said : writing limit kind l words ones twos (length before) ≡ given n
+  writing-said = sym (did .answer) ∙ said
+
+  pub wrote-accepted : Accepted limit (formatFor kind l words) words ones twos
+  unfolding writing
+  wrote-accepted =
+      lists-accepted limit (formatFor kind l words) words ones twos
+      (first-both _ _ (listsTests limit (formatFor kind l words) words ones twos) _ writing-said .0)
+
+  pub wrote-size : sizeOf (length words) ≡ n
+  unfolding writing
+  wrote-size = first-value _ (sizeOf (length words)) n writing-said
+
+  pub wrote-bytes : after ≡ cardOf (formatFor kind l words) (slotFrom words ones twos) ++ drop n before
+  wrote-bytes = rw writing-said at (did .bytes)
+
+-- of lists that are accepted: the room decides
+module _ {limit kind l : ℕ} {words ones twos before after : List ℕ} {r : Written}
+    (did : Writes limit kind l words ones twos before r after) (has : Accepted limit (formatFor kind l words) words ones twos) where
+  pub wrote-card : sizeOf (length words) ≤ length before
+      → (saysWritten r ≡ given (sizeOf (length words)))
+      × (after ≡ cardOf (formatFor kind l words) (slotFrom words ones twos) ++ drop (sizeOf (length words)) before)
+  wrote-card h =
+      let said = card-given limit kind l words ones twos before (accepted-lists has) h in
+      (did .answer ∙ said, rw said at (did .bytes))
+
+  pub wrote-nothing : length before < sizeOf (length words) → (saysWritten r ≡ refused Room 0) × (after ≡ before)
+  wrote-nothing h =
+      let said = room-refused limit kind l words ones twos before (accepted-lists has) h in
+      (did .answer ∙ said, rw said at (did .bytes))

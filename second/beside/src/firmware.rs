@@ -1,86 +1,11 @@
 //! The compiled library, called through C.
-//!
-//! Each structure stands as C passes it: every field is one machine word, and
-//! a number of 0 says that nothing was refused.
 
-/// What admitting a card answers; all fields but number and place are 0 where it is refused.
-#[repr(C)]
-#[derive(Clone, Copy, Debug, Default, PartialEq, Eq)]
-pub struct Admitted {
-    /// The refusal's number, or 0.
-    pub number: usize,
-    /// The refusal's place, or 0.
-    pub place: usize,
-    /// The stored kind.
-    pub kind: usize,
-    /// The letters of each word.
-    pub l: usize,
-    /// The number of entries.
-    pub m: usize,
-}
-
-/// What an entry fetch answers; all fields but number and place are 0 where it is refused.
-#[repr(C)]
-#[derive(Clone, Copy, Debug, Default, PartialEq, Eq)]
-pub struct EntryAnswer {
-    /// The refusal's number, or 0.
-    pub number: usize,
-    /// The refusal's place, or 0.
-    pub place: usize,
-    /// 1 for one place, 2 for two places, 3 for a span.
-    pub shape: usize,
-    /// The word's value.
-    pub word: usize,
-    /// The one place, the first of two, or the first of the span.
-    pub first: usize,
-    /// The second of two places or the last of the span, else 0.
-    pub second: usize,
-}
-
-/// What a step answers; all fields are 0 at the end, and all but number and place on refusal.
-#[repr(C)]
-#[derive(Clone, Copy, Debug, Default, PartialEq, Eq)]
-pub struct StepAnswer {
-    /// The refusal's number, or 0.
-    pub number: usize,
-    /// The refusal's place, or 0.
-    pub place: usize,
-    /// 1 for one place, 2 for two places, 3 for a span, 0 for the end.
-    pub shape: usize,
-    /// The word's value.
-    pub word: usize,
-    /// The one place, the first of two, or the first of the span.
-    pub first: usize,
-    /// The second of two places or the last of the span, else 0.
-    pub second: usize,
-    /// Where the moved head stands.
-    pub next: usize,
-}
-
-/// What the companion of a block fetch answers: number 0 says that the fetch holds.
-#[repr(C)]
-#[derive(Clone, Copy, Debug, Default, PartialEq, Eq)]
-pub struct Held {
-    /// The refusal's number, or 0.
-    pub number: usize,
-    /// The refusal's place, or 0.
-    pub place: usize,
-}
-
-/// The part that a block fetch answers; both fields are 0 for the empty part.
-#[repr(C)]
-#[derive(Clone, Copy, Debug, Default, PartialEq, Eq)]
-pub struct Part {
-    /// The byte of the card where the part begins.
-    pub at: usize,
-    /// The bytes of the part.
-    pub length: usize,
-}
+use crate::answers::{Admitted, EntryAnswer, Held, Part, StepAnswer, WriteAnswer};
 
 /// The functions as C declares them.
 #[cfg(target_arch = "x86_64")]
 mod exported {
-    use super::{Admitted, EntryAnswer, Held, Part, StepAnswer};
+    use super::{Admitted, EntryAnswer, Held, Part, StepAnswer, WriteAnswer};
 
     extern "C" {
         pub fn belfrymist_admit(card: *const u8, len: usize) -> Admitted;
@@ -88,6 +13,18 @@ mod exported {
         pub fn belfrymist_step(card: *const u8, len: usize, at: usize) -> StepAnswer;
         pub fn belfrymist_companion(card: *const u8, len: usize, k: usize) -> Held;
         pub fn belfrymist_fetch(card: *const u8, len: usize, k: usize) -> Part;
+        pub fn belfrymist_write(
+            kind: usize,
+            l: usize,
+            words: *const u32,
+            words_len: usize,
+            ones: *const u16,
+            ones_len: usize,
+            twos: *const u16,
+            twos_len: usize,
+            out: *mut u8,
+            out_len: usize,
+        ) -> WriteAnswer;
     }
 }
 
@@ -97,15 +34,33 @@ mod exported {
 /// the caller hands over the place of the answer as a first argument.
 #[cfg(not(target_arch = "x86_64"))]
 mod exported {
-    use super::{Admitted, EntryAnswer, Held, Part, StepAnswer};
+    use super::{Admitted, EntryAnswer, Held, Part, StepAnswer, WriteAnswer};
 
     mod placed {
-        use super::{Admitted, EntryAnswer, StepAnswer};
+        use super::{Admitted, EntryAnswer, StepAnswer, WriteAnswer};
 
         extern "C" {
             pub fn belfrymist_admit(answer: *mut Admitted, card: *const u8, len: usize);
-            pub fn belfrymist_entry(answer: *mut EntryAnswer, card: *const u8, len: usize, i: usize);
+            pub fn belfrymist_entry(
+                answer: *mut EntryAnswer,
+                card: *const u8,
+                len: usize,
+                i: usize,
+            );
             pub fn belfrymist_step(answer: *mut StepAnswer, card: *const u8, len: usize, at: usize);
+            pub fn belfrymist_write(
+                answer: *mut WriteAnswer,
+                kind: usize,
+                l: usize,
+                words: *const u32,
+                words_len: usize,
+                ones: *const u16,
+                ones_len: usize,
+                twos: *const u16,
+                twos_len: usize,
+                out: *mut u8,
+                out_len: usize,
+            );
         }
     }
 
@@ -131,10 +86,42 @@ mod exported {
         placed::belfrymist_step(&mut answer, card, len, at);
         answer
     }
+
+    // The arguments are those of the function as C declares it.
+    #[allow(clippy::too_many_arguments)]
+    pub unsafe fn belfrymist_write(
+        kind: usize,
+        l: usize,
+        words: *const u32,
+        words_len: usize,
+        ones: *const u16,
+        ones_len: usize,
+        twos: *const u16,
+        twos_len: usize,
+        out: *mut u8,
+        out_len: usize,
+    ) -> WriteAnswer {
+        let mut answer = WriteAnswer::default();
+        placed::belfrymist_write(
+            &mut answer,
+            kind,
+            l,
+            words,
+            words_len,
+            ones,
+            ones_len,
+            twos,
+            twos_len,
+            out,
+            out_len,
+        );
+        answer
+    }
 }
 
 use exported::{
     belfrymist_admit, belfrymist_companion, belfrymist_entry, belfrymist_fetch, belfrymist_step,
+    belfrymist_write,
 };
 
 /// Admits the card.
@@ -166,4 +153,32 @@ pub fn companion(card: &[u8], k: usize) -> Held {
 pub fn fetch(card: &[u8], k: usize) -> Part {
     // SAFETY: as for `admit`.
     unsafe { belfrymist_fetch(card.as_ptr(), card.len(), k) }
+}
+
+/// Writes the card of this kind and l whose entries stand in three lists.
+pub fn write(
+    kind: usize,
+    l: usize,
+    words: &[u32],
+    ones: &[u16],
+    twos: &[u16],
+    out: &mut [u8],
+) -> WriteAnswer {
+    // SAFETY: each pointer with its length is that of a slice that lives through
+    // the call; the library only reads the lists, and the output is lent to it
+    // alone.
+    unsafe {
+        belfrymist_write(
+            kind,
+            l,
+            words.as_ptr(),
+            words.len(),
+            ones.as_ptr(),
+            ones.len(),
+            twos.as_ptr(),
+            twos.len(),
+            out.as_mut_ptr(),
+            out.len(),
+        )
+    }
 }

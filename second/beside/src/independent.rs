@@ -4,8 +4,9 @@ use second::block;
 use second::entry::{Entry, Places};
 use second::reader::{self, Head};
 use second::refusal::Refusal;
+use second::writer;
 
-use crate::firmware::{Admitted, EntryAnswer, Held, Part, StepAnswer};
+use crate::answers::{Admitted, EntryAnswer, Held, Part, StepAnswer, WriteAnswer};
 
 /// Admits the card.
 pub fn admit(card: &[u8]) -> Admitted {
@@ -97,6 +98,31 @@ pub fn fetch(card: &[u8], k: usize) -> Part {
             length: part.len(),
         },
         None => Part::default(),
+    }
+}
+
+/// Writes the card of this kind and l whose entries stand in three lists.
+pub fn write(
+    kind: usize,
+    l: usize,
+    words: &[u32],
+    ones: &[u16],
+    twos: &[u16],
+    out: &mut [u8],
+) -> WriteAnswer {
+    match writer::write(kind, l, words, ones, twos, out) {
+        Ok(length) => WriteAnswer {
+            length,
+            ..WriteAnswer::default()
+        },
+        Err(refusal) => {
+            let (number, place) = number_and_place(refusal);
+            WriteAnswer {
+                number,
+                place,
+                ..WriteAnswer::default()
+            }
+        }
     }
 }
 

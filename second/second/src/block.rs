@@ -1,4 +1,4 @@
-//! The block fetch and its companion; nothing here knows of entries.
+//! The block fetch, its companion and the seal; nothing here knows of entries.
 
 use crate::check;
 use crate::numbers::{BLOCK, CHECK_A, CHECK_B, INDEX};
@@ -31,6 +31,19 @@ pub fn fetch(card: &[u8], k: usize) -> Option<&Block> {
 /// Says that the fetch of block k holds, or why it does not.
 pub fn companion(card: &[u8], k: usize) -> Result<(), Refusal> {
     sound(card, k).map(|_| ())
+}
+
+/// Stores the block's index and check, whatever its other bytes are.
+pub fn seal(block: &mut Block, k: u16) {
+    block[INDEX..CHECK_A].copy_from_slice(&k.to_le_bytes());
+    put_check(block);
+}
+
+/// Stores the two sums of the bytes before them.
+pub fn put_check(block: &mut Block) {
+    let sums = check::sums(&block[..CHECK_A]);
+    block[CHECK_A] = sums.a;
+    block[CHECK_B] = sums.b;
 }
 
 #[cfg(test)]
@@ -87,6 +100,20 @@ mod tests {
         card[510] = 0;
         card[511] = 255;
         assert_eq!(companion(&card, 0), Err(Reason::Check.at(0)));
+    }
+
+    #[test]
+    fn a_sealed_block_holds() {
+        let mut block = [0; BLOCK];
+        seal(&mut block, 1);
+        assert_eq!(block[..], two_blocks()[BLOCK..]);
+        block[0] = 255;
+        block[507] = 7;
+        block[508..].fill(99);
+        seal(&mut block, 0);
+        // The 7 is in b at the bytes 507, 508 and 509.
+        assert_eq!(block[508..], [0, 0, 7, 21]);
+        assert_eq!(companion(&block, 0), Ok(()));
     }
 
     #[test]

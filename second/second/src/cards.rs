@@ -4,13 +4,13 @@
 //! damage may by chance leave a card sound. What a card gets is the reader's
 //! answer alone.
 
-use crate::check;
+use crate::block;
 use crate::entry::Stored;
 use crate::numbers::{
     BLOCK, CHECK_A, CHECK_B, COUNT, ENTRIES_PER_BLOCK, ENTRY, FORM, HEAD_GAP, HEAD_SPARE, INDEX,
     KIND, MOST_ENTRIES, MOST_LETTERS, NO_PLACE, SPAN_WIDTH, THE_FORM, WORD_LENGTH,
 };
-use crate::reader::Kind;
+use crate::profile::Kind;
 
 /// A small generator of numbers (splitmix64): the same seed always draws the same numbers.
 #[derive(Clone, Debug)]
@@ -142,10 +142,7 @@ pub fn entry_start(i: usize) -> usize {
 
 /// Stores entry i, whose slot is there; the check is left as it was.
 pub fn put_entry(card: &mut [u8], i: usize, stored: Stored) {
-    let start = entry_start(i);
-    card[start..start + 4].copy_from_slice(&stored.word.to_le_bytes());
-    card[start + 4..start + 6].copy_from_slice(&stored.one.to_le_bytes());
-    card[start + 6..start + 8].copy_from_slice(&stored.two.to_le_bytes());
+    card[entry_start(i)..][..ENTRY].copy_from_slice(&stored.to_bytes());
 }
 
 /// Stores an index in block k, which is there; the check is left as it was.
@@ -158,9 +155,7 @@ pub fn put_index(card: &mut [u8], k: usize, index: u16) {
 pub fn put_right(card: &mut [u8], k: usize) {
     let (blocks, _rest) = card.as_chunks_mut::<BLOCK>();
     if let Some(block) = blocks.get_mut(k) {
-        let sums = check::sums(&block[..CHECK_A]);
-        block[CHECK_A] = sums.a;
-        block[CHECK_B] = sums.b;
+        block::put_check(block);
     }
 }
 

@@ -1,7 +1,7 @@
 //! One entry: as it is stored, and as a word with its allowed places.
 
 use crate::numbers::{ENTRY, NO_PLACE, SPAN_WIDTH};
-use crate::reader::{Kind, Profile};
+use crate::profile::{Kind, Profile};
 use crate::refusal::Reason;
 
 /// The places that an entry is allowed.
@@ -46,6 +46,14 @@ impl Stored {
         }
     }
 
+    /// The bytes of an entry that hold the fields.
+    pub fn to_bytes(self) -> [u8; ENTRY] {
+        let [w0, w1, w2, w3] = self.word.to_le_bytes();
+        let [p0, p1] = self.one.to_le_bytes();
+        let [q0, q1] = self.two.to_le_bytes();
+        [w0, w1, w2, w3, p0, p1, q0, q1]
+    }
+
     /// The entry that the fields mean on such a card, or the rule that they break: 10 before 11.
     pub fn entry(self, profile: &Profile) -> Result<Entry, Reason> {
         // A word of l letters is below 4^l, which is two bits for each letter.
@@ -82,6 +90,17 @@ mod tests {
         let profile = Profile { kind, l: 2, m: 20 };
         let stored = Stored { word: 0, one, two };
         stored.entry(&profile).map(|entry| entry.places)
+    }
+
+    #[test]
+    fn the_bytes_of_an_entry() {
+        let stored = Stored {
+            word: 0x0403_0201,
+            one: 0x0605,
+            two: 0x0807,
+        };
+        assert_eq!(stored.to_bytes(), [1, 2, 3, 4, 5, 6, 7, 8]);
+        assert_eq!(Stored::of_bytes(&stored.to_bytes()), stored);
     }
 
     #[test]

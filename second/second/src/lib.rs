@@ -1,21 +1,29 @@
-//! An independent reader of spectrum cards.
+//! An independent reader and writer of spectrum cards.
 //!
 //! It is written from the scope document alone. Tests and comparisons set it
-//! beside the proved reader, so it shares no code with that one and takes its
+//! beside the proved code, so it shares nothing with that one and takes its
 //! own way through the same rules:
 //!
 //! * [`numbers`]: every number of the card, each in one place;
 //! * [`refusal`]: why a call is refused, and at which place;
 //! * [`check`]: the two sums of a block;
-//! * [`block`]: the block fetch and its companion;
+//! * [`block`]: the block fetch, its companion and the seal;
+//! * [`profile`]: kind, l and m, each within its limits;
 //! * [`entry`]: one entry as stored, and as allowed places;
 //! * [`reader`]: admitting a card, entry fetch, the reading head, the lists;
-//! * [`cards`]: sound and damaged cards for tests, drawn from a seed.
+//! * [`writer`]: writing a card from lists;
+//! * [`cards`]: sound and damaged cards for tests, drawn from a seed;
+//! * [`lists`]: sound and damaged lists for tests, drawn from a seed.
 
 pub mod block;
 pub mod cards;
 pub mod check;
 pub mod entry;
+#[cfg(test)]
+mod examples;
+pub mod lists;
 pub mod numbers;
+pub mod profile;
 pub mod reader;
 pub mod refusal;
+pub mod writer;

@@ -3,56 +3,11 @@
 use crate::block::{self, Block};
 use crate::entry::{Entry, Stored};
 use crate::numbers::{
-    BLOCK, COUNT, ENTRIES_PER_BLOCK, ENTRY, FEWEST_ENTRIES, FEWEST_LETTERS, FORM, HEAD_GAP,
-    HEAD_SPARE, INDEX, KIND, MOST_ENTRIES, MOST_LETTERS, PAIR, SPAN, THE_FORM, WORD_LENGTH,
+    BLOCK, COUNT, ENTRIES_PER_BLOCK, ENTRY, FORM, HEAD_GAP, HEAD_SPARE, INDEX, KIND, THE_FORM,
+    WORD_LENGTH,
 };
+use crate::profile::{self, Kind, Profile};
 use crate::refusal::{Reason, Refusal};
-
-/// The two kinds of card.
-#[derive(Clone, Copy, Debug, PartialEq, Eq)]
-pub enum Kind {
-    /// Each entry has one or two places.
-    Pair,
-    /// Each entry has an unbroken run of places.
-    Span,
-}
-
-impl Kind {
-    /// The number that a card stores for this kind.
-    pub fn number(self) -> u8 {
-        match self {
-            Kind::Pair => PAIR,
-            Kind::Span => SPAN,
-        }
-    }
-
-    /// The kind that a card stores as this number, if there is one.
-    pub fn of_number(number: u8) -> Option<Kind> {
-        match number {
-            PAIR => Some(Kind::Pair),
-            SPAN => Some(Kind::Span),
-            _ => None,
-        }
-    }
-}
-
-/// What admitting a card answers.
-#[derive(Clone, Copy, Debug, PartialEq, Eq)]
-pub struct Profile {
-    /// The card's kind.
-    pub kind: Kind,
-    /// The letters of each word.
-    pub l: u8,
-    /// The number of entries.
-    pub m: u16,
-}
-
-impl Profile {
-    /// The number of blocks, block 0 included.
-    fn blocks(&self) -> usize {
-        1 + usize::from(self.m).div_ceil(ENTRIES_PER_BLOCK)
-    }
-}
 
 /// Admits the card: tests all of it in the order on reading and answers kind, l and m.
 pub fn admit(card: &[u8]) -> Result<Profile, Refusal> {
@@ -60,7 +15,7 @@ pub fn admit(card: &[u8]) -> Result<Profile, Refusal> {
         return Err(Reason::Short.at(0));
     }
     let profile = admit_head(block::sound(card, 0)?)?;
-    if card.len() != profile.blocks() * BLOCK {
+    if card.len() != profile.size() {
         return Err(Reason::Size.at(0));
     }
     for k in 1..profile.blocks() {
@@ -135,15 +90,10 @@ fn admit_head(head: &Block) -> Result<Profile, Refusal> {
     if head[FORM] != THE_FORM {
         return Err(Reason::Form.at(0));
     }
-    let kind = Kind::of_number(head[KIND]).ok_or(Reason::Kind.at(0))?;
-    let l = head[WORD_LENGTH];
-    if !(FEWEST_LETTERS..=MOST_LETTERS).contains(&l) {
-        return Err(Reason::WordLength.at(0));
-    }
+    let kind = Kind::of_number(usize::from(head[KIND]))?;
+    let l = profile::letters(usize::from(head[WORD_LENGTH]))?;
     let m = u16::from_le_bytes([head[COUNT], head[COUNT + 1]]);
-    if !(FEWEST_ENTRIES..=MOST_ENTRIES).contains(&m) {
-        return Err(Reason::Count.at(0));
-    }
+    let m = profile::count(usize::from(m))?;
     if head[HEAD_GAP] != 0 || !is_zero(&head[HEAD_SPARE..INDEX]) {
         return Err(Reason::Spare.at(0));
     }
@@ -188,41 +138,9 @@ fn is_zero(bytes: &[u8]) -> bool {
 #[cfg(test)]
 mod tests {
     use super::*;
-    use crate::cards::{put_right, Draft};
+    use crate::cards::put_right;
     use crate::entry::Places;
-
-    /// The S1 card, AC[0,2] CA[1,3] AG[0,2] GA[1,3], with its sums reckoned by hand.
-    fn s1() -> Vec<u8> {
-        let mut card = vec![0; 1024];
-        card[..6].copy_from_slice(&[1, 2, 2, 0, 4, 0]);
-        card[510..512].copy_from_slice(&[9, 233]);
-        card[512..520].copy_from_slice(&[1, 0, 0, 0, 0, 0, 2, 0]);
-        card[520..528].copy_from_slice(&[4, 0, 0, 0, 1, 0, 3, 0]);
-        card[528..536].copy_from_slice(&[2, 0, 0, 0, 0, 0, 2, 0]);
-        card[536..544].copy_from_slice(&[8, 0, 0, 0, 1, 0, 3, 0]);
-        card[1020..1024].copy_from_slice(&[1, 0, 28, 28]);
-        card
-    }
-
-    /// A sound draft whose every entry has word 0 and place 0 alone.
-    fn plain(kind: Kind, l: u8, m: u16) -> Draft {
-        let two = match kind {
-            Kind::Pair => 65_535,
-            Kind::Span => 0,
-        };
-        let entry = Stored {
-            word: 0,
-            one: 0,
-            two,
-        };
-        Draft {
-            form: 1,
-            kind: kind.number(),
-            l,
-            m,
-            entries: vec![entry; usize::from(m)],
-        }
-    }
+    use crate::examples::{plain, s1};
 
     #[test]
     fn the_s1_card_is_admitted_and_listed() {

@@ -1,10 +1,8 @@
 -- `block::seal` meets its contract: the own bytes, zeros, the index and the check are what `sealed` is (`seal-made`). Assumes nothing.
 use borrow.Author.Needs.{needs}
-use mathlib.Core.Path.{_≡_}
 use native.Mathlib.Omega.{arith}
-use lib.ListN.{length, length-set, length-take}
-use Rattle.block.specs.Block.{blockBytes}
-use Rattle.block.proofs.SealingLaws.{seal-length, seal-made}
+use lib.ListN.{length-set, length-take}
+use Rattle.block.proofs.SealingLaws.{seal-made}
 use Rattle.block.proofs.seal.Statement.{statement}
 use Rattle.block.proofs.seal.Tie as tie
 
@@ -16,9 +14,6 @@ module _ (c : tie.After-put-two) where
   abbrev start : tie.Start
   start = cleared .before .before .before
 
-  whole : length (c .put-two .last .0) ≡ blockBytes
-  whole = seal-length _ _ _ (start .pre .0) (start .pre .1) (cleared .clear .ensures) (c .put-two .ensures)
-
 clear-requires : tie.Need-clear-requires
 clear-requires c κs = search needs
 
@@ -29,7 +24,7 @@ slice-reshare-prefix-sum-up : tie.Need-slice-reshare-prefix-sum-up
 slice-reshare-prefix-sum-up c = search needs
 
 slice-aggregate-sum-up : tie.Need-slice-aggregate-sum-up
-slice-aggregate-sum-up c = simp length-take (omega (arith, whole (c .before .before .before)))
+slice-aggregate-sum-up c = simp length-take (omega arith)
 
 sum-up-requires : tie.Need-sum-up-requires
 sum-up-requires c κs = search needs
@@ -41,12 +36,10 @@ add-part : tie.Need-add-part
 add-part c = search needs
 
 slice-write-part-2 : tie.Need-slice-write-part-2
-slice-write-part-2 c = simp length-set (omega (arith, whole (c .before .before .before .before)))
+slice-write-part-2 c = simp length-set (omega arith)
 
 same-length : tie.Need-same-length
-same-length c =
-    let index = c .before .before .before .before in
-    simp length-set (omega (arith, whole index, start index .pre .0))
+same-length c = simp length-set (omega arith)
 
 returns : tie.Need-returns
 returns c =

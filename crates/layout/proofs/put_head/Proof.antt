@@ -1,15 +1,13 @@
 -- `layout::put_head` meets its contract: four bytes, m and the seal are block 0 (`head-made`). Assumes nothing.
 use borrow.Author.Needs.{needs}
 use native.Mathlib.Omega.{arith}
-use lib.ListN.{length, length-set, take}
+use lib.ListN.{length, set, length-set}
 use mathlib.Core.List.{List}
 use Prim.Native.Nat.{ℕ}
-use Rattle.block.specs.Block.{blockBytes}
-use Rattle.block.specs.Sealing.{sealed}
 use Rattle.entries.specs.declared.Format.{Format}
-use Rattle.layout.specs.Card.{headBytes}
-use mathlib.Core.Path.{_≡_, sym, _∙_}
-use Rattle.layout.proofs.CardLaws.{head-put-length, head-made, head-made-length}
+use mathlib.Core.Path.{_≡_}
+use Rattle.layout.specs.Bounds.{theForm}
+use Rattle.layout.proofs.CardLaws.{head-made}
 use Rattle.layout.proofs.put_head.Statement.{statement}
 use Rattle.layout.proofs.put_head.Tie as tie
 
@@ -24,15 +22,9 @@ module _ (c : tie.After-put-two) where
   abbrev format : Format
   format = start .args .f
 
-  fields-whole : length (c .put-two .last .0) ≡ blockBytes
-  fields-whole = head-put-length before format (start .pre .0) (c .put-two .ensures)
-
-  module _ {after : List ℕ} (e : after ≡ sealed (take 6 (c .put-two .last .0)) 0) where
-    made : after ≡ sealed (headBytes format) 0
-    made = head-made before format (start .pre .0) (c .put-two .ensures) e
-
-    sealed-whole : length after ≡ blockBytes
-    sealed-whole = head-made-length before format (start .pre .0) (c .put-two .ensures) e
+  -- the bytes of the fields change no length
+  four-set : length (set (set (set (set before 0 theForm) 1 (format .kind)) 2 (format .l)) 3 0) ≡ length before
+  four-set = simp length-set
 
 slice-write-part : tie.Need-slice-write-part
 slice-write-part c = search needs
@@ -59,16 +51,15 @@ put-two-requires : tie.Need-put-two-requires
 put-two-requires c κs = simp length-set (omega (arith, c .before .before .before .before .before .pre .0))
 
 seal-requires : tie.Need-seal-requires
-seal-requires c κs =
-    (fields-whole (c .before .before .before), omega arith)
+seal-requires c κs = let at-m = c .before .before .before in omega (arith, four-set at-m, start at-m .pre .0)
 
 same-length : tie.Need-same-length
-same-length c =
-    let at-m = c .before .before .before .before .before .before in
-    sealed-whole at-m (c .before .before .seal .ensures) ∙ sym (start at-m .pre .0)
+same-length c = let at-m = c .before .before .before .before .before .before in omega (arith, four-set at-m)
 
 returns : tie.Need-returns
-returns c = made (c .before .before .before .before .before .before) (c .before .before .seal .ensures)
+returns c =
+    let at-m = c .before .before .before .before .before .before in
+    head-made (before at-m) (format at-m) (start at-m .pre .0) (at-m .put-two .ensures) (c .before .before .seal .ensures)
 
 pub put-head-spec : {M : Type 1} → statement M
 put-head-spec =

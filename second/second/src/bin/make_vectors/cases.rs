@@ -1,17 +1,21 @@
 //! The cases of the vectors: each rule and edge by itself, then many at once.
 //!
 //! Where a case is made for one rule, the answer is stated beside it as the
-//! scope document gives it, and the program stops if the reader says otherwise.
+//! scope document gives it, and the program stops if the reader or the writer
+//! says otherwise.
 
 mod faults;
 mod several;
 mod sound;
+mod writing;
 
 use second::cards::{any_index, claimed_count, Draft, Random};
+use second::lists::LONGEST_LIST;
 use second::numbers::BLOCK;
-use second::reader::Kind;
+use second::profile::Kind;
+use second::reader;
 
-use crate::record::{Record, LONGEST_LIST};
+use crate::record::{Record, LONGEST_ROOM};
 
 /// Both kinds of card.
 const KINDS: [Kind; 2] = [Kind::Pair, Kind::Span];
@@ -20,6 +24,8 @@ const KINDS: [Kind; 2] = [Kind::Pair, Kind::Span];
 pub struct Cases {
     record: Record,
     random: Random,
+    /// Draws the rooms for writing a card again, apart from all else that is drawn.
+    rooms: Random,
 }
 
 impl Cases {
@@ -28,6 +34,7 @@ impl Cases {
         let mut cases = Cases {
             record: Record::default(),
             random: Random::new(seed),
+            rooms: Random::new(seed + 1),
         };
         cases.tables();
         cases.sound_cards();
@@ -43,6 +50,7 @@ impl Cases {
         cases.orders();
         cases.many_faults();
         cases.no_cards();
+        cases.writing();
         cases.record
     }
 
@@ -51,9 +59,29 @@ impl Cases {
         Draft::sound(&mut self.random, kind, l, m).lay_out()
     }
 
+    /// Sets the current card, and records writing it again: always where the reader admits it.
+    fn set_card(&mut self, card: &[u8]) {
+        self.record.set_card(card);
+        let n = card.len();
+        if reader::admit(card).is_ok() {
+            self.record.again(n);
+            if self.rooms.once_in(2) {
+                let less = self.rooms.below(n);
+                let more = n + self.rooms.between(2, 2 * BLOCK);
+                for room in [n - 1, n + 1, less, more] {
+                    self.record.again(room);
+                }
+            }
+        } else if self.rooms.once_in(8) {
+            // The card's own refusal comes before 12.
+            let room = self.rooms.pick(&[0, n, LONGEST_ROOM]);
+            self.record.again(room);
+        }
+    }
+
     /// Records a card that must be admitted.
     fn admitted(&mut self, card: &[u8]) {
-        self.record.set_card(card);
+        self.set_card(card);
         if let Err(refusal) = self.record.admit() {
             panic!("{refusal:?} for a card that is sound");
         }
@@ -62,7 +90,7 @@ impl Cases {
 
     /// Records a card that must be refused with this number and place, by every call that admits.
     fn refused(&mut self, card: &[u8], number: u8, place: usize) {
-        self.record.set_card(card);
+        self.set_card(card);
         let i = any_index(&mut self.random, card) as u64;
         let h = any_index(&mut self.random, card) as u64;
         let answers = [

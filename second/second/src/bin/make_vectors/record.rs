@@ -1,21 +1,34 @@
 //! The two files of the vectors as they grow, and the words of each answer.
 
+mod writing;
+
 use second::block;
 use second::entry::{Entry, Places};
-use second::reader::{self, Head, Profile};
+use second::lists::LONGEST_LIST;
+use second::profile::Profile;
+use second::reader::{self, Head};
 use second::refusal::Refusal;
+
+pub use writing::{BYTE_BEFORE, LONGEST_ROOM};
 
 /// The most bytes that a card of the vectors may have.
 const LONGEST_CARD: usize = 6144;
-/// The most slots that a lent list of the vectors may have.
-pub const LONGEST_LIST: u16 = 600;
 /// What every slot of the words holds before the call.
 const WORD_BEFORE: u32 = 305_419_896;
 /// What every slot of the places holds before the call.
 const PLACE_BEFORE: u16 = 4660;
 
 /// The names of the operations, in the order of their counts.
-const OPERATIONS: [&str; 6] = ["admit", "entry", "step", "fetch", "companion", "lists"];
+const OPERATIONS: [&str; 8] = [
+    "admit",
+    "entry",
+    "step",
+    "fetch",
+    "companion",
+    "lists",
+    "write",
+    "again",
+];
 
 /// How often an operation was recorded.
 #[derive(Clone, Copy, Default)]

@@ -4,7 +4,7 @@ use second::cards::{entry_start, put_all_right, put_entry, put_index, put_right,
 use second::check;
 use second::entry::Stored;
 use second::numbers::{BLOCK, CHECK_A, CHECK_B, MOST_ENTRIES, NO_PLACE};
-use second::reader::Kind;
+use second::profile::Kind;
 
 use super::{Cases, KINDS};
 
@@ -347,7 +347,7 @@ impl Cases {
 }
 
 /// Places one and two at their limits on such a card, and whether they are allowed.
-fn edge_places(kind: Kind, m: u16) -> Vec<(u16, u16, bool)> {
+pub(super) fn edge_places(kind: Kind, m: u16) -> Vec<(u16, u16, bool)> {
     let last = m - 1;
     let mut edges = vec![
         (NO_PLACE, NO_PLACE, false),

@@ -47,7 +47,7 @@ impl Cases {
         for round in 0..270 {
             let mut card = any_sound_card(&mut self.random);
             damage(&mut self.random, &mut card, 1 + round % 3);
-            self.record.set_card(&card);
+            self.set_card(&card);
             self.whatever_comes();
         }
     }
@@ -56,7 +56,7 @@ impl Cases {
     pub(super) fn no_cards(&mut self) {
         for _ in 0..120 {
             let card = any_bytes(&mut self.random);
-            self.record.set_card(&card);
+            self.set_card(&card);
             self.whatever_comes();
         }
     }
