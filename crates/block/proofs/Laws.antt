@@ -88,7 +88,9 @@ module _ (card : List ℕ) where
   -- every byte of a block is below 256 where every byte of the card is
   pub block-bytes : AreBytes card → (k : ℕ) → AreBytes (blockAt card k)
   unfolding blockAt
-  block-bytes bytes k = take-bytes blockBytes (drop (blockBytes * k) card) (λ i. rw (getD-drop (blockBytes * k) card i 0) (bytes (blockBytes * k + i)))
+  block-bytes bytes k =
+      let at : ℕ = blockBytes * k in
+      take-bytes blockBytes (drop at card) (λ i. rw (getD-drop at card i 0) (bytes (at + i)))
 
 -- ---- a block of a card
 

@@ -1,10 +1,10 @@
 -- The laws of writing bytes into a buffer, and of numbers in bytes, that this crate's proofs and the crates above cite. Assumes nothing.
 use mathlib.Core.Path.{_≡_, refl, sym, ap, _∙_}
 use mathlib.Core.List.{List, [], _∷_, _++_, append-assoc, append-nil}
-use Prim.Native.Nat.{ℕ, zero, suc, _+_, _*_, _-_, _/_, _%_, _≤_, _<_}
+use Prim.Native.Nat.{ℕ, suc, _+_, _*_, _-_, _/_, _%_, _≤_, _<_}
 use native.Mathlib.Numerals.{add-one}
 use native.Mathlib.Omega.{arith}
-use lib.ListN.{length, getD, take, drop, set, replicate, length-append, length-take, length-drop, length-replicate, replicate-append-replicate, take-append-drop}
+use lib.ListN.{length, getD, take, drop, set, replicate, length-append, length-drop, length-replicate, replicate-append-replicate, take-append-drop}
 use lib.Seq.{set-split, drop-cons, drop-length, drop-drop, take-at, drop-at, getD-at, getD-append-add, length-take-le, append-snoc}
 use Rattle.block.specs.Bytes.{twoAt, fourAt, twoBytes, fourBytes, putAt, AreBytes}
 
@@ -97,8 +97,9 @@ pub four-put : (l : List ℕ) (at x : ℕ) {l₁ l₂ : List ℕ} → at + 4 ≤
     → l₂ ≡ putAt (twoBytes (x / 65536)) (at + 2) l₁ → l₂ ≡ putAt (fourBytes x) at l
 unfolding fourBytes
 four-put l at x h e₁ e₂ =
-    e₂
-    ∙ put-on l at (twoBytes (x % 65536)) e₁ (omega (arith, length-two (x % 65536))) (twoBytes (x / 65536)) (omega (arith, length-two (x / 65536)))
+    let low = length-two (x % 65536) in
+    let high = length-two (x / 65536) in
+    e₂ ∙ put-on l at (twoBytes (x % 65536)) e₁ (omega (arith, low)) (twoBytes (x / 65536)) (omega (arith, high))
 
 -- ---- zeros put one after the other
 

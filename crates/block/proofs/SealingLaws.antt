@@ -1,12 +1,12 @@
 -- The laws of sealed blocks that this crate's proofs and the crates above cite: what is sealed holds and keeps its own bytes, and a block
 -- that holds is what sealing makes of its own bytes. Assumes nothing.
 use mathlib.Core.Path.{_≡_, refl, sym, ap, _∙_}
-use mathlib.Core.Bool.{Bool, true, _&&_}
-use mathlib.Core.List.{List, [], _∷_, _++_, append-assoc, append-nil}
-use Prim.Native.Nat.{ℕ, zero, suc, _+_, _-_, _≤_, _<_}
+use mathlib.Core.Bool.{true}
+use mathlib.Core.List.{List, [], _∷_, _++_, append-assoc}
+use Prim.Native.Nat.{ℕ, _+_, _-_, _≤_}
 use native.Mathlib.Omega.{arith}
-use lib.ListN.{length, getD, take, drop, set, replicate, length-append, length-drop, length-replicate, take-append-drop, drop-of-length-le}
-use lib.Seq.{take-at, drop-at, getD-at, getD-append-add, length-take-le, drop-length, drop-append-le, take-append-le, take-add}
+use lib.ListN.{length, getD, take, drop, set, replicate, length-append, length-replicate, take-append-drop, drop-of-length-le}
+use lib.Seq.{take-at, drop-at, getD-at, getD-append-add, length-take-le, drop-append-le}
 use lib.Dec.{eqb}
 use borrow.Author.Tests.{eq-eqb, eqb-true}
 use Rattle.answers.specs.Answer.{given, sound, first}
@@ -18,7 +18,7 @@ use Rattle.block.specs.Check.{sumsOf, checks, checkAt}
 use Rattle.block.specs.Block.{blockBytes, indexAt, indexOf, blockTests}
 use Rattle.block.specs.Sealing.{checked, sealed}
 use Rattle.block.proofs.Laws.{block-sound}
-use Rattle.block.proofs.PutLaws.{length-two, two-read, two-again, drop-two, put-one, put-on, put-next, put-length, put-start, put-whole, put-own}
+use Rattle.block.proofs.PutLaws.{length-two, two-read, two-again, drop-two, put-on, put-next, put-start, put-whole, put-own}
 
 -- what stands before the check: the own bytes, zeros, and the index
 abbrev spares : List ℕ → List ℕ

@@ -11,7 +11,7 @@ use lib.Dec.{leb}
 use borrow.Author.Tests.{le-leb, lt-leb, leb-true}
 use Rattle.answers.specs.declared.Refusal.{Refusal}
 use Rattle.answers.specs.Numbers.{Room}
-use Rattle.answers.specs.Answer.{given, refused, sound, first}
+use Rattle.answers.specs.Answer.{given, refused, sound}
 use Rattle.answers.specs.Row.{row}
 use Rattle.answers.proofs.Laws.{first-fail, first-last, first-holds, first-refused, first-both, first-value, first-given-any, first-refused-any}
 use Rattle.answers.proofs.RowLaws.{length-row, row-none, row-more}

@@ -1,7 +1,7 @@
 -- Whatever the reader refuses by is above 0. Assumes nothing.
 use mathlib.Core.Path.{_≡_}
 use mathlib.Core.List.{List}
-use Prim.Native.Nat.{ℕ, _+_, _<_}
+use Prim.Native.Nat.{ℕ, _<_}
 use native.Mathlib.Omega.{arith}
 use Rattle.answers.specs.Numbers.{Short, Form, Kind, Length, Count, Spare, Size, Absent}
 use Rattle.answers.specs.Answer.{refused}

@@ -1,20 +1,18 @@
 -- The reading order, taken apart: it holds exactly where the card is laid out as it must be, its format is one, and each of its entries is
 -- sound. Assumes nothing.
-use mathlib.Core.Path.{_≡_, refl, sym, ap, _∙_}
+use mathlib.Core.Path.{_≡_, _∙_}
 use mathlib.Core.Bool.{true}
-use mathlib.Core.List.{List, [], _∷_, _++_}
-use Prim.Native.Nat.{ℕ, zero, suc, _+_, _*_, _-_, _/_, _%_, _≤_, _<_, min}
+use mathlib.Core.List.{List, _++_}
+use Prim.Native.Nat.{ℕ, zero, suc, _+_, _-_, _/_, _%_, _≤_, _<_}
 use native.Mathlib.Omega.{arith}
 use lib.ListN.{length}
 use borrow.Author.Tests.{le-leb, eq-eqb, eqb-true}
 use Rattle.answers.specs.Answer.{given, sound, first}
 use Rattle.answers.proofs.Laws.{first-pass, first-last, first-passed, first-holds, first-both, turns-hold, turns-held}
 use Rattle.block.specs.Block.{blockBytes, blockAt, blockTests}
-use Rattle.entries.specs.declared.Format.{Format}
-use Rattle.entries.specs.Slot.{slotAt}
 use Rattle.entries.specs.Fault.{leastLength, mostLength, entryTests}
-use Rattle.layout.specs.Bounds.{theForm, leastEntries, isWithin, isKind}
-use Rattle.layout.specs.Layout.{formOf, formatOf, toldBy, perBlock, entryBlocks, sizeOf, entriesBefore, entriesIn, slotOf, headSpare, slotsSpare}
+use Rattle.layout.specs.Bounds.{leastEntries, isWithin, isKind}
+use Rattle.layout.specs.Layout.{toldBy, perBlock, entryBlocks, sizeOf, entriesBefore, entriesIn, slotOf, slotsSpare}
 use Rattle.layout.proofs.LaidLaws.{Laid}
 use Rattle.layout.proofs.AgainLaws.{slot-in-block}
 use Rattle.card.specs.Reading.{fieldTests, headTests, slotsTests, laterTests, readingOrder}

@@ -7,7 +7,7 @@ ghost use Rattle.answers.specs.Row.{inTurn};
 ghost use Rattle.block.specs.Block.{blockBytes};
 ghost use Rattle.entries.specs.Fault.{mostLength};
 ghost use Rattle.layout.specs.Layout.{formatOf, perBlock, entryBlocks, sizeOf};
-ghost use Rattle.layout.specs.Bounds.{mostEntries, isWithin, isKind};
+ghost use Rattle.layout.specs.Bounds.{mostEntries};
 ghost use Rattle.card.specs.Reading.{fieldTests, headTests, slotsTests, laterTests, readingOrder};
 use answers::Held;
 use answers::Refusal;

@@ -1,7 +1,7 @@
 -- The laws of slots and their bytes that this crate's proofs and the crates above cite: a slot that was written is read, and the bytes that
 -- were read as a slot are the slot's. Assumes nothing.
-use mathlib.Core.Path.{_≡_, refl, sym, ap, _∙_}
-use mathlib.Core.List.{List, [], _∷_, _++_, append-assoc}
+use mathlib.Core.Path.{_≡_, sym, ap, _∙_}
+use mathlib.Core.List.{List, _++_, append-assoc}
 use Prim.Native.Nat.{ℕ, _+_, _*_, _≤_}
 use native.Mathlib.Omega.{arith}
 use lib.ListN.{length, drop, length-append}
@@ -15,7 +15,14 @@ unfolding slotBytes
 length-slot s =
     let one = twoBytes (s .one) in
     let two = twoBytes (s .two) in
-    omega (arith, length-append (fourBytes (s .word)) (one ++ two), length-append one two, length-four (s .word), length-two (s .one), length-two (s .two))
+    omega (
+      arith,
+      length-append (fourBytes (s .word)) (one ++ two),
+      length-append one two,
+      length-four (s .word),
+      length-two (s .one),
+      length-two (s .two),
+    )
 
 -- as the code writes it: the word, place one, place two
 pub slot-put : (l : List ℕ) (at : ℕ) (s : Slot) {l₁ l₂ l₃ : List ℕ} → at + entryBytes ≤ length l
@@ -48,9 +55,10 @@ slot-read p q j s stands =
     at-one ∙ sym (append-assoc (p ++ word) one (two ++ q)) in
     let to-one : length (p ++ word) ≡ entryBytes * j + 4 = omega (arith, length-append p word, length-four (s .word)) in
     let to-two : length (p ++ word ++ one) ≡ entryBytes * j + 6 = omega (arith, length-append (p ++ word) one, length-two (s .one)) in
-    let w = ap (λ (xs : List ℕ). fourAt xs (entryBytes * j)) at-word ∙ four-read p (one ++ two ++ q) (entryBytes * j) (s .word) stands in
-    let o = ap (λ (xs : List ℕ). twoAt xs (entryBytes * j + 4)) at-one ∙ two-read (p ++ word) (two ++ q) (entryBytes * j + 4) (s .one) to-one in
-    let t = ap (λ (xs : List ℕ). twoAt xs (entryBytes * j + 6)) at-two ∙ two-read (p ++ word ++ one) q (entryBytes * j + 6) (s .two) to-two in
+    let at : ℕ = entryBytes * j in
+    let w = ap (λ (xs : List ℕ). fourAt xs at) at-word ∙ four-read p (one ++ two ++ q) at (s .word) stands in
+    let o = ap (λ (xs : List ℕ). twoAt xs (at + 4)) at-one ∙ two-read (p ++ word) (two ++ q) (at + 4) (s .one) to-one in
+    let t = ap (λ (xs : List ℕ). twoAt xs (at + 6)) at-two ∙ two-read (p ++ word ++ one) q (at + 6) (s .two) to-two in
     λ i. record { word = w i; one = o i; two = t i }
 
 -- bytes that were read as a slot are its bytes

@@ -26,6 +26,7 @@ module _ (card : List ℕ) (k : ℕ) {n p : ℕ} where
   pub companion-tells : first (fetchTests card k) sound ≡ refused n p → 0 < heldAnswer (first (fetchTests card k) sound) .number
   companion-tells e = rw e (numbered-refused (fetch-numbered card k) sound e)
 
-pub write-tells : (limit kind l : ℕ) (words ones twos : List ℕ) (room : ℕ) {n p : ℕ} → writing limit kind l words ones twos room ≡ refused n p
+pub write-tells : (limit kind l : ℕ) (words ones twos : List ℕ) (room : ℕ) {n p : ℕ}
+    → writing limit kind l words ones twos room ≡ refused n p
     → 0 < writeAnswer (writing limit kind l words ones twos room) .number
 write-tells limit kind l words ones twos room e = rw e (writing-number limit kind l words ones twos room e)

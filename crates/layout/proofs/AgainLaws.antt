@@ -1,29 +1,27 @@
 -- The blocks of a card that is sound are what sealing makes of what they say: so a card is `cardOf` of its format and its slots.
 -- Assumes nothing.
-use mathlib.Core.Path.{_≡_, refl, sym, ap, _∙_}
+use mathlib.Core.Path.{_≡_, sym, ap, _∙_}
 use mathlib.Core.Bool.{true}
-use mathlib.Core.List.{List, [], _∷_, _++_, append-assoc}
-use Prim.Native.Nat.{ℕ, zero, suc, _+_, _*_, _-_, _/_, _%_, _≤_, _<_, min}
+use mathlib.Core.List.{List, _∷_, _++_, append-assoc}
+use Prim.Native.Nat.{ℕ, zero, suc, _+_, _*_, _-_, _/_, _%_, _≤_, _<_}
 use native.Mathlib.Omega.{arith}
-use lib.ListN.{length, getD, take, drop, replicate, length-append, length-take, length-drop}
+use lib.ListN.{length, getD, take, drop, replicate, length-take, length-drop}
 use lib.Dec.{eqb}
 use borrow.Author.Tests.{eqb-true}
 use Rattle.answers.specs.Answer.{given, sound, first}
 use Rattle.answers.specs.Row.{inTurn}
-use Rattle.answers.proofs.RowLaws.{turns-none, turns-same}
+use Rattle.answers.proofs.RowLaws.{turns-same}
 use Rattle.answers.proofs.Tests.{both}
-use Rattle.block.specs.Bytes.{twoAt, twoBytes, AreBytes}
+use Rattle.block.specs.Bytes.{AreBytes}
 use Rattle.block.specs.Block.{blockBytes, blockAt, blockTests, indexAt}
 use Rattle.block.specs.Sealing.{sealed}
 use Rattle.block.proofs.Laws.{block-bytes, block-length, blocks-all}
 use Rattle.block.proofs.PutLaws.{two-again, drop-two}
 use Rattle.block.proofs.SealingLaws.{sealed-again}
-use Rattle.entries.specs.declared.Format.{Format}
-use Rattle.entries.specs.declared.Slot.{Slot}
 use Rattle.entries.specs.Slot.{entryBytes, slotAt, slotBytes}
 use Rattle.entries.proofs.SlotLaws.{slot-again}
 use Rattle.layout.specs.Bounds.{theForm}
-use Rattle.layout.specs.Layout.{formOf, formatOf, toldBy, perBlock, entryBlocks, sizeOf, entriesBefore, entriesIn, slotOf, isZeros, headSpare, slotsSpare}
+use Rattle.layout.specs.Layout.{formOf, formatOf, toldBy, perBlock, entryBlocks, entriesBefore, entriesIn, slotOf, isZeros, headSpare, slotsSpare}
 use Rattle.layout.specs.Card.{headBytes, slotsBytes, ownBytes, blocksOf, cardOf}
 use Rattle.layout.proofs.ZerosLaws.{are-zeros}
 use Rattle.layout.proofs.LaidLaws.{Laid}
@@ -55,10 +53,12 @@ module _ (b : List ℕ) (k : ℕ) (whole : length b ≡ blockBytes) (held : firs
       let h = both (eqb (getD b 3 0) 0) (isZeros (drop 6 (take indexAt b))) spare in
       let six = length-head (formatOf b) in
       let zeros = spare-zeros b 6 whole (h .1) in
-      sealed-again b k whole held bytes (headBytes (formatOf b)) (omega (arith, six)) (rw six (head-stands form (eqb-true (getD b 3 0) 0 (h .0)))) (rw six zeros)
+      let stands = head-stands form (eqb-true (getD b 3 0) 0 (h .0)) in
+      sealed-again b k whole held bytes (headBytes (formatOf b)) (omega (arith, six)) (rw six stands) (rw six zeros)
 
   -- the slots of a later block are its first bytes
-  slots-stand : (n j : ℕ) → entryBytes * (j + n) ≤ length b → slotsBytes (slotAt b) j n ++ drop (entryBytes * (j + n)) b ≡ drop (entryBytes * j) b
+  slots-stand : (n j : ℕ) → entryBytes * (j + n) ≤ length b
+      → slotsBytes (slotAt b) j n ++ drop (entryBytes * (j + n)) b ≡ drop (entryBytes * j) b
   unfolding slotsBytes inTurn
   slots-stand zero j h = let z : j + 0 ≡ j = omega arith in rw z
   slots-stand (suc n) j h =
@@ -108,7 +108,8 @@ module _ (card : List ℕ) (bytes : AreBytes card) (has : Laid card) where
       let same = slots-same (slotOf card) (slotAt (blockAt card (suc k))) (entriesBefore (suc k)) 0 n
       (λ j g. slot-in-block card (suc k) j (omega arith) (omega arith) ∙ ap (slotAt (blockAt card (suc k))) (omega arith)) in
       ap (λ (own : List ℕ). sealed own (suc k)) (own-later (toldBy card) (slotOf card) (suc k) (omega arith) ∙ same)
-      ∙ later-again (blockAt card (suc k)) (suc k) (whole-block (suc k) h) (has .blocks (suc k) h) (block-bytes card bytes (suc k)) n (omega arith) spare
+      ∙ later-again (blockAt card (suc k)) (suc k) (whole-block (suc k) h) (has .blocks (suc k) h) (block-bytes card bytes (suc k))
+      n (omega arith) spare
 
   -- its format and its slots are all that it says
   pub card-again : cardOf (toldBy card) (slotOf card) ≡ card

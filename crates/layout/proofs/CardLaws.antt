@@ -2,18 +2,18 @@
 use mathlib.Core.Path.{_≡_, refl, sym, ap, _∙_}
 use mathlib.Core.Bool.{true}
 use mathlib.Core.List.{List, [], _∷_, _++_, append-assoc}
-use Prim.Native.Nat.{ℕ, zero, suc, _+_, _*_, _-_, _/_, _%_, _≤_, _<_, min}
+use Prim.Native.Nat.{ℕ, zero, suc, _+_, _*_, _-_, _/_, _%_, _≤_, _<_}
 use native.Mathlib.Numerals.{add-one}
 use native.Mathlib.Omega.{arith}
-use lib.ListN.{length, getD, take, drop, set, replicate, length-append}
+use lib.ListN.{length, getD, take, drop, set}
 use lib.Seq.{take-at, drop-at}
 use Rattle.answers.specs.Row.{inTurn}
 use Rattle.answers.proofs.RowLaws.{length-turns, turns-none, turns-more, turns-at, turns-same}
-use Rattle.block.specs.Bytes.{twoAt, twoBytes, putAt}
+use Rattle.block.specs.Bytes.{twoBytes, putAt}
 use Rattle.block.specs.Block.{blockBytes, blockAt, indexAt}
 use Rattle.block.specs.Sealing.{sealed}
 use Rattle.block.proofs.Laws.{block-in-place}
-use Rattle.block.proofs.PutLaws.{length-two, two-read, put-one, put-next, put-on, put-start, put-length}
+use Rattle.block.proofs.PutLaws.{length-two, two-read, put-one, put-next, put-on, put-start}
 use Rattle.block.proofs.SealingLaws.{length-sealed, sealed-own, sealed-spare}
 use Rattle.entries.specs.declared.Format.{Format}
 use Rattle.entries.specs.declared.Slot.{Slot}
@@ -79,8 +79,8 @@ module _ (f : Format) (slots : ℕ → Slot) where
       let split : inTurn blocks 0 n ≡ inTurn blocks 0 k ++ (blocks k ++ inTurn blocks (k + 1) (n - (k + 1))) =
       rw here at (turns-at blocks 0 n k (omega arith)) in
       ap (λ (xs : List ℕ). blockAt xs k) split
-      ∙ block-in-place (inTurn blocks 0 k) (blocks k) (inTurn blocks (k + 1) (n - (k + 1))) k (length-turns blocks blockBytes length-block 0 k)
-      (length-block k)
+      ∙ block-in-place (inTurn blocks 0 k) (blocks k) (inTurn blocks (k + 1) (n - (k + 1))) k
+      (length-turns blocks blockBytes length-block 0 k) (length-block k)
 
 -- ---- what block 0 says
 

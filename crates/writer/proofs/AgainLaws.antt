@@ -1,16 +1,15 @@
 -- An admitted card's own lists are accepted, and the card of them is that card: the laws behind the second round trip. Assumes nothing.
-use mathlib.Core.Path.{_≡_, refl, sym, ap, _∙_}
+use mathlib.Core.Path.{_≡_, sym, ap, _∙_}
 use mathlib.Core.List.{List}
 use Prim.Native.Nat.{ℕ, _+_, _<_}
 use native.Mathlib.Omega.{arith}
-use lib.ListN.{length, getD}
+use lib.ListN.{length}
 use Rattle.answers.specs.Answer.{given, sound, first}
 use Rattle.answers.specs.Row.{row}
 use Rattle.answers.proofs.Laws.{turns-hold}
 use Rattle.answers.proofs.RowLaws.{length-row, row-at}
 use Rattle.block.specs.Bytes.{AreBytes}
 use Rattle.entries.specs.declared.Format.{Format}
-use Rattle.entries.specs.declared.Slot.{Slot}
 use Rattle.entries.specs.Fault.{entryTests}
 use Rattle.layout.specs.Layout.{toldBy, sizeOf, slotOf}
 use Rattle.layout.specs.Card.{cardOf}

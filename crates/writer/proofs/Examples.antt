@@ -17,7 +17,8 @@ use Rattle.card.proofs.Examples.{headOf, s1}
 use Rattle.writer.specs.Writing.{formatFor, slotFrom, listsTests, writing}
 
 -- S1: AC[0,2] CA[1,3] AG[0,2] GA[1,3]
-pub s1-written : cardOf (formatFor span 2 (1 ∷ 4 ∷ 2 ∷ 8 ∷ [])) (slotFrom (1 ∷ 4 ∷ 2 ∷ 8 ∷ []) (0 ∷ 1 ∷ 0 ∷ 1 ∷ []) (2 ∷ 3 ∷ 2 ∷ 3 ∷ [])) ≡ s1
+pub s1-written :
+    cardOf (formatFor span 2 (1 ∷ 4 ∷ 2 ∷ 8 ∷ [])) (slotFrom (1 ∷ 4 ∷ 2 ∷ 8 ∷ []) (0 ∷ 1 ∷ 0 ∷ 1 ∷ []) (2 ∷ 3 ∷ 2 ∷ 3 ∷ [])) ≡ s1
 unfolding cardOf blocksOf ownBytes headBytes slotsBytes slotBytes slotFrom inTurn sealed checked sumsOf twoBytes fourBytes headOf s1
 s1-written = refl
 

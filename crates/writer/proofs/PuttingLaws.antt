@@ -1,7 +1,7 @@
 -- The laws of writing slots and blocks one after the other that this crate's proofs cite. No contract cites this file. Assumes nothing.
 use mathlib.Core.Path.{_≡_, refl, sym, ap, _∙_}
-use mathlib.Core.List.{List, [], _∷_, _++_}
-use Prim.Native.Nat.{ℕ, _+_, _*_, _-_, _/_, _≤_, _<_}
+use mathlib.Core.List.{List, _++_}
+use Prim.Native.Nat.{ℕ, _+_, _*_, _-_, _≤_, _<_}
 use native.Mathlib.Omega.{arith}
 use lib.ListN.{length, take, drop}
 use lib.Seq.{take-at, drop-at}
@@ -14,7 +14,7 @@ use Rattle.entries.specs.declared.Format.{Format}
 use Rattle.entries.specs.declared.Slot.{Slot}
 use Rattle.entries.specs.Slot.{entryBytes, slotBytes}
 use Rattle.entries.proofs.SlotLaws.{length-slot}
-use Rattle.layout.specs.Layout.{entryBlocks, sizeOf, perBlock, entriesBefore, entriesIn}
+use Rattle.layout.specs.Layout.{entryBlocks, entriesBefore, entriesIn}
 use Rattle.layout.specs.Card.{headBytes, slotsBytes, blocksOf, cardOf}
 use Rattle.layout.proofs.CardLaws.{length-slots, length-later, slots-none, slots-more, length-blocks, blocks-one, blocks-more, blocks-card}
 
@@ -29,7 +29,8 @@ pub record Slotted (before : List ℕ) (slots : ℕ → Slot) (e n j : ℕ) (par
 module _ (before : List ℕ) (slots : ℕ → Slot) (e n : ℕ) where
   pub slotted-none : entryBytes * n ≤ length before → Slotted before slots e n 0 before
   slotted-none h =
-      record { within = omega arith; room = h; stands = sym (ap (λ (xs : List ℕ). putAt xs 0 before) (slots-none slots e) ∙ put-none before 0) }
+      let none = ap (λ (xs : List ℕ). putAt xs 0 before) (slots-none slots e) in
+      record { within = omega arith; room = h; stands = sym (none ∙ put-none before 0) }
 
   module _ {j : ℕ} {part : List ℕ} (so-far : Slotted before slots e n j part) where
     pub slotted-length : length part ≡ length before
@@ -104,7 +105,8 @@ module _ (before : List ℕ) (f : Format) (slots : ℕ → Slot) (last : ℕ) wh
     blocked-turn {block} h made =
         let n : ℕ = blockBytes * k + blockBytes - blockBytes * k in
         let blocks = blocksOf f slots k in
-        let whole : length block ≡ blockBytes = ap length made ∙ length-later slots (entriesBefore k) (entriesIn (f .m) k) k (omega arith) in
+        let whole : length block ≡ blockBytes =
+        ap length made ∙ length-later slots (entriesBefore k) (entriesIn (f .m) k) k (omega arith) in
         let same : blocks ++ block ≡ blocksOf f slots (k + 1) =
         ap (λ (xs : List ℕ). blocks ++ xs) made ∙ sym (blocks-more f slots k (so-far .begun)) in
         record {

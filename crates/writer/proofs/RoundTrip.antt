@@ -8,7 +8,7 @@ use mathlib.Core.Path.{_≡_, refl, sym, ap, _∙_}
 use mathlib.Core.List.{List, _++_}
 use Prim.Native.Nat.{ℕ, _+_, _≤_, _<_}
 use native.Mathlib.Omega.{arith}
-use lib.ListN.{length, getD, take, drop}
+use lib.ListN.{length, take, drop}
 use lib.Seq.{take-at}
 use Rattle.answers.specs.Numbers.{Room}
 use Rattle.answers.specs.Answer.{given, refused}
@@ -100,7 +100,8 @@ module _ {limit : ℕ} {card a b c a′ b′ c′ : List ℕ} {q : Admitted} {f 
   admitted = listed-admitted listed told
 
   -- what was written are the card's own lists
-  own-lists : Writes limit (f .kind) (f .l) (itsWords limit card admitted) (itsOnes limit card admitted) (itsTwos limit card admitted) before r after
+  own-lists :
+      Writes limit (f .kind) (f .l) (itsWords limit card admitted) (itsOnes limit card admitted) (itsTwos limit card admitted) before r after
   own-lists = rw (listed-words listed told, listed-ones listed told, listed-twos listed told) at did
 
   own-size : sizeOf (length (itsWords limit card admitted)) ≡ length card

@@ -1,12 +1,12 @@
 -- The laws of the writer's tests and of its answers that this crate's proofs cite. No contract cites this file. Assumes nothing.
-use mathlib.Core.Path.{_≡_, refl, sym, ap, _∙_}
-use mathlib.Core.Bool.{Bool, true, false, _&&_}
-use mathlib.Core.List.{List, [], _∷_, _++_}
-use Prim.Native.Nat.{ℕ, _+_, _*_, _≤_, _<_}
+use mathlib.Core.Path.{_≡_, sym, ap, _∙_}
+use mathlib.Core.Bool.{true, false}
+use mathlib.Core.List.{List, _++_}
+use Prim.Native.Nat.{ℕ, _+_, _≤_, _<_}
 use native.Mathlib.Omega.{arith}
 use lib.ListN.{length, drop}
-use lib.Dec.{eqb, leb}
-use borrow.Author.Tests.{eq-eqb, ne-eqb, eqb-true, le-leb, lt-leb, leb-true}
+use lib.Dec.{eqb}
+use borrow.Author.Tests.{eq-eqb, ne-eqb, eqb-true, le-leb, lt-leb}
 use Rattle.answers.specs.declared.Refusal.{Refusal}
 use Rattle.answers.specs.Numbers.{Kind, Length, Lists, Count, Room}
 use Rattle.answers.specs.Answer.{given, refused, sound, first}
@@ -20,7 +20,7 @@ use Rattle.layout.specs.Layout.{sizeOf}
 use Rattle.layout.specs.Card.{cardOf}
 use Rattle.writer.specs.declared.Written.{Written}
 use Rattle.writer.specs.declared.Written.the-variants.{Card, Refused}
-use Rattle.writer.specs.Writing.{formatFor, slotFrom, sameLength, listsTests, writing, saysWritten, outputAfter, Writes}
+use Rattle.writer.specs.Writing.{formatFor, slotFrom, sameLength, listsTests, writing, saysWritten, Writes}
 
 -- ---- three lengths
 
@@ -61,7 +61,8 @@ module _ (limit : ℕ) (f : Format) (words ones twos : List ℕ) where
 
         -- then the entries answer
         pub lists-go-on : isWithin leastEntries limit (f .m) ≡ true
-            → first (inTurn (λ e. entryTests f e (slotFrom words ones twos e)) 0 (f .m)) sound ≡ first (listsTests limit f words ones twos) sound
+            → first (inTurn (λ e. entryTests f e (slotFrom words ones twos e)) 0 (f .m)) sound
+            ≡ first (listsTests limit f words ones twos) sound
         unfolding listsTests
         lists-go-on h =
             sym

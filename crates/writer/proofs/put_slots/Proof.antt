@@ -45,7 +45,8 @@ loop-again : tie.Need-loop-again Inv-loop μ-loop
 loop-again c =
     let put = c .before .before in
     let asked = put .before .before in
-    slotted-turn _ _ _ _ (turn asked .loop .inv) _ (asked .before .loop-test .taken) (put .before .slot-from .ensures) (put .put-slot .ensures)
+    let left = asked .before .loop-test .taken in
+    slotted-turn _ _ _ _ (turn asked .loop .inv) _ left (put .before .slot-from .ensures) (put .put-slot .ensures)
 
 same-length : tie.Need-same-length Inv-loop μ-loop
 same-length c = slotted-length _ _ _ _ (c .before .loop .inv)
