@@ -114,7 +114,7 @@ loop-again : tie.Need-loop-again Inv-loop μ-loop
 loop-again c =
     let put = c .before .before in
     let turn = put .before .before in
-    blocked-turn _ _ _ _ (turn .before .loop .inv) (turn .loop-test .taken) (put .put-later .ensures)
+    blocked-turn _ _ _ _ (turn .before .loop .inv) (omega (arith, turn .loop-test .taken)) (put .put-later .ensures)
 
 same-length : tie.Need-same-length Inv-loop μ-loop
 same-length c =
