@@ -1,6 +1,6 @@
 -- Numbers in bytes: "Little-endian throughout."
 --   twoAt bytes at, fourAt bytes at    == the number in two, in four bytes from `at` on
---   twoBytes x, fourBytes x            == the two, the four bytes that hold the number x
+--   twoBytes x, fourBytes x            == the two, the four bytes that hold the number x, which is below 65,536, below 65,536²
 --   putAt xs at buffer                 == the buffer with the bytes xs from `at` on, and its other bytes as they were
 --   AreBytes xs                        == each of the numbers xs is a byte, as each number in a buffer is
 -- Assumes nothing.

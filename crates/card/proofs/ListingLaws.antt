@@ -13,9 +13,10 @@ use Rattle.answers.specs.declared.Refusal.{Refusal}
 use Rattle.answers.specs.Numbers.{Room}
 use Rattle.answers.specs.Answer.{given, refused, sound}
 use Rattle.answers.specs.Row.{row}
-use Rattle.answers.proofs.Laws.{first-fail, first-last, first-holds, first-refused, first-both, first-value, first-given-any, first-refused-any}
+use Rattle.answers.proofs.Laws.{first-fail, first-last, first-holds, first-passed, first-refused, first-both, first-value, first-given-any, first-refused-any}
 use Rattle.answers.proofs.RowLaws.{length-row, row-none, row-more}
 use Rattle.answers.proofs.Tests.{both}
+use Rattle.block.specs.Bytes.{AreBytes}
 use Rattle.entries.specs.declared.Format.{Format}
 use Rattle.card.specs.declared.Admitted.{Admitted}
 use Rattle.card.specs.declared.Admitted.the-variants.{Card, Refused}
@@ -23,7 +24,7 @@ use Rattle.layout.specs.Layout.{toldBy, slotOf}
 use Rattle.card.specs.Reading.{readingOrder}
 use Rattle.card.specs.Fetching.{admission, saysAdmitted}
 use Rattle.card.specs.Listing.{hasRoom, listTests, listing, filled, Listed}
-use Rattle.card.proofs.FetchingLaws.{Admits}
+use Rattle.card.proofs.FetchingLaws.{Admits, admission-admits}
 
 -- ---- a list that is filled from the front
 
@@ -79,6 +80,10 @@ room-fits m words ones twos e =
     let g = both (leb m words) (leb m ones) (h .0) in
     record { in-words = leb-true m words (g .0); in-ones = leb-true m ones (g .1); in-twos = leb-true m twos (h .1) }
 
+pub fits-room : (m words ones twos : ℕ) → Fits m words ones twos → hasRoom m words ones twos ≡ true
+fits-room m words ones twos has =
+    rw (le-leb m words (has .in-words), le-leb m ones (has .in-ones)) (le-leb m twos (has .in-twos))
+
 -- ---- the three outcomes
 
 module _ (limit : ℕ) (card words ones twos : List ℕ) where
@@ -87,19 +92,19 @@ module _ (limit : ℕ) (card words ones twos : List ℕ) where
   listing-refused e = first-refused _ _ (readingOrder limit card) (first-refused-any (readingOrder limit card) (toldBy card) sound e)
 
   -- nothing is written where the answer is a refusal
-  untouched : {n : Refusal} → listing limit card words ones twos ≡ refused (n .number) (n .place)
+  untouched : {n : Refusal} → AreBytes card → listing limit card words ones twos ≡ refused (n .number) (n .place)
       → Listed limit card words ones twos (Refused n) words ones twos
-  untouched e = record { answer = sym e; in-words = rw e; in-ones = rw e; in-twos = rw e }
+  untouched bytes e = record { of-bytes = bytes; answer = sym e; in-words = rw e; in-ones = rw e; in-twos = rw e }
 
-  pub listed-refused : {n : Refusal} → admission limit card ≡ refused (n .number) (n .place)
+  pub listed-refused : {n : Refusal} → AreBytes card → admission limit card ≡ refused (n .number) (n .place)
       → Listed limit card words ones twos (Refused n) words ones twos
-  listed-refused e = untouched (listing-refused e)
+  listed-refused bytes e = untouched bytes (listing-refused e)
 
-  module _ {f : Format} (has : Admits limit card f) where
+  module _ {f : Format} (bytes : AreBytes card) (has : Admits limit card f) where
     pub listed-no-room : hasRoom (f .m) (length words) (length ones) (length twos) ≡ false
         → Listed limit card words ones twos (Refused (record { number = Room; place = 0 })) words ones twos
     unfolding listing listTests
-    listed-no-room h = untouched (first-holds _ _ _ (has .order) ∙ first-fail _ _ _ _ _ (rw (has .told) at h))
+    listed-no-room h = untouched bytes (first-holds _ _ _ (has .order) ∙ first-fail _ _ _ _ _ (rw (has .told) at h))
 
     listing-given : hasRoom (f .m) (length words) (length ones) (length twos) ≡ true → listing limit card words ones twos ≡ given f
     unfolding listing listTests
@@ -112,7 +117,7 @@ module _ (limit : ℕ) (card words ones twos : List ℕ) where
         → Listed limit card words ones twos (Card f) words′ ones′ twos′
     listed-filled h w o t =
         let e = listing-given h in
-        record { answer = sym e; in-words = rw e w; in-ones = rw e o; in-twos = rw e t }
+        record { of-bytes = bytes; answer = sym e; in-words = rw e w; in-ones = rw e o; in-twos = rw e t }
 
 -- ---- what the lists hold once a card is admitted into them
 
@@ -121,9 +126,13 @@ pub filled-start : (numberOf : ℕ → ℕ) (m : ℕ) (before : List ℕ) → ta
 unfolding filled
 filled-start numberOf m before = take-at (row numberOf 0 m) (drop m before) m (length-row numberOf 0 m)
 
-pub filled-with : (numberOf : ℕ → ℕ) (m : ℕ) (before xs : List ℕ) → row numberOf 0 m ≡ xs → filled numberOf m before ≡ xs ++ drop m before
-unfolding filled
-filled-with numberOf m before xs e = ap (λ (ys : List ℕ). ys ++ drop m before) e
+-- a card that is admitted is listed where there is room
+pub listed-given : {limit : ℕ} {card words ones twos words′ ones′ twos′ : List ℕ} {r : Admitted} {f : Format}
+    → Listed limit card words ones twos r words′ ones′ twos′ → admission limit card ≡ given f
+    → Fits (f .m) (length words) (length ones) (length twos) → saysAdmitted r ≡ given f
+listed-given {limit} {card} {words} {ones} {twos} {f = f} did e has =
+    let room = fits-room (f .m) (length words) (length ones) (length twos) has in
+    did .answer ∙ listing-given limit card words ones twos (did .of-bytes) (admission-admits limit card e) room
 
 module _ {limit : ℕ} {card words ones twos words′ ones′ twos′ : List ℕ} {r : Admitted} {f : Format}
     (did : Listed limit card words ones twos r words′ ones′ twos′) (said : saysAdmitted r ≡ given f) where
@@ -136,6 +145,14 @@ module _ {limit : ℕ} {card words ones twos words′ ones′ twos′ : List ℕ
       let parts = first-both _ _ (readingOrder limit card) _ listing-said in
       first-given-any (readingOrder limit card) sound sound (toldBy card) (parts .0)
       ∙ ap given (first-value (listTests limit card words ones twos) (toldBy card) f listing-said)
+
+  -- it was listed where there was room
+  pub listed-fits : Fits (f .m) (length words) (length ones) (length twos)
+  unfolding listing listTests
+  listed-fits =
+      let told = first-value (listTests limit card words ones twos) (toldBy card) f listing-said in
+      let room = first-passed _ _ _ _ _ _ (first-both _ _ (readingOrder limit card) _ listing-said .1) .0 in
+      room-fits (f .m) (length words) (length ones) (length twos) (rw told at room)
 
   pub listed-words : take (f .m) words′ ≡ row (λ e. slotOf card e .word) 0 (f .m)
   listed-words = ap (take (f .m)) (rw listing-said at (did .in-words)) ∙ filled-start (λ e. slotOf card e .word) (f .m) words

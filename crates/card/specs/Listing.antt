@@ -9,6 +9,7 @@ use lib.Dec.{leb}
 use Rattle.answers.specs.Numbers.{Room}
 use Rattle.answers.specs.Answer.{Answer, given, refused, Test, test, first}
 use Rattle.answers.specs.Row.{row}
+use Rattle.block.specs.Bytes.{AreBytes}
 use Rattle.entries.specs.declared.Format.{Format}
 use Rattle.card.specs.declared.Admitted.{Admitted}
 use Rattle.layout.specs.Layout.{toldBy, slotOf}
@@ -35,8 +36,9 @@ abbrev pub listed : (ℕ → ℕ) → List ℕ → Answer Format → List ℕ
 listed numberOf before (given f) = filled numberOf (f .m) before
 listed numberOf before (refused n p) = before
 
--- the answer, and every slot of each list afterwards
+-- the answer, and every slot of each list afterwards; and that each number of the card is a byte, as each number of a lent card is
 pub record Listed (limit : ℕ) (card words ones twos : List ℕ) (r : Admitted) (words′ ones′ twos′ : List ℕ) : Type 0 where
+  pub of-bytes : AreBytes card
   pub answer : saysAdmitted r ≡ listing limit card words ones twos
   pub in-words : words′ ≡ listed (λ e. slotOf card e .word) words (listing limit card words ones twos)
   pub in-ones : ones′ ≡ listed (λ e. slotOf card e .one) ones (listing limit card words ones twos)

@@ -1,4 +1,4 @@
--- The laws of a card's layout that this crate's proofs cite. No contract cites this file. Assumes nothing.
+-- The laws of a card's layout that this crate's proofs and the crates above cite. No contract cites this file. Assumes nothing.
 use mathlib.Core.Path.{_≡_}
 use mathlib.Core.Logic.{_⊎_, inl, inr}
 use mathlib.Core.Bool.{true, false}

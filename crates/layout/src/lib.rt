@@ -15,9 +15,9 @@ use entries::Slot;
 
 // What a card's form must be.
 pub const THE_FORM: u8 = 1;
-// The least and the most entries of a card.
+// The least entries of a card.
 const LEAST: usize = 1;
-
+// The most entries of a card.
 const MOST: usize = 504;
 // The entries of a full block.
 const PER_BLOCK: usize = 63;

@@ -116,16 +116,12 @@ pub fn of_lists() -> bool {
     write_sized(kind, l, a, b, c, room)
 }
 
-// Writes a card of this format of the first m slots of each list, and answers whether a list can have as many.
-fn write_first(f: Format, words: &[u32], ones: &[u16], twos: &[u16], out: &mut [u8]) -> bool
-    requires { ⌜ (slots ≤ length (now words)) × (slots ≤ length (now ones)) × (slots ≤ length (now twos)) ⌝ }
+// Writes a card of this format of the first m slots of each list.
+fn write_first(f: Format, words: &[u32], ones: &[u16], twos: &[u16], out: &mut [u8])
+    requires { ⌜ (f .m ≤ length (now words)) × (f .m ≤ length (now ones)) × (f .m ≤ length (now twos)) ⌝ }
 {
     let m = f.m;
-    if SLOTS < m {
-        return false;
-    }
     write(f.kind, f.l, &words[..m], &ones[..m], &twos[..m], out);
-    true
 }
 
 // Admits the card into the lists, and writes it again of what they hold then, or prints the reader's refusal.
@@ -135,15 +131,10 @@ fn write_listed(
     ones: &mut [u16],
     twos: &mut [u16],
     out: &mut [u8],
-) -> bool
-    requires { ⌜ (slots ≤ length (now words)) × (slots ≤ length (now ones)) × (slots ≤ length (now twos)) ⌝ }
-{
+) {
     match card::listing::admit_into(card, words, ones, twos) {
         Admitted::Card(f) => write_first(f, words, ones, twos, out),
-        Admitted::Refused(r) => {
-            print(Line::refused(r), out);
-            true
-        }
+        Admitted::Refused(r) => print(Line::refused(r), out),
     }
 }
 
@@ -159,5 +150,6 @@ pub fn again(card: &[u8]) -> bool {
     let mut ones = [0u16; SLOTS];
     let mut twos = [0u16; SLOTS];
     let mut out = [OLD_BYTE; ROOM];
-    write_listed(card, &mut words, &mut ones, &mut twos, &mut out[..room])
+    write_listed(card, &mut words, &mut ones, &mut twos, &mut out[..room]);
+    true
 }

@@ -6,7 +6,6 @@ use native.Mathlib.Omega.{arith}
 use lib.ListN.{length}
 use Rattle.answers.specs.Answer.{given, sound, first}
 use Rattle.answers.specs.Row.{row}
-use Rattle.answers.proofs.Laws.{turns-hold}
 use Rattle.answers.proofs.RowLaws.{length-row, row-at}
 use Rattle.block.specs.Bytes.{AreBytes}
 use Rattle.entries.specs.declared.Format.{Format}
@@ -57,18 +56,18 @@ module _ (limit : ℕ) (card : List ℕ) {f : Format} (admitted : admission limi
       λ i. record { word = word i; one = one i; two = two i }
 
   -- are accepted
-  pub again-accepted : Accepted limit (formatFor (f .kind) (f .l) itsWords) itsWords itsOnes itsTwos
-  again-accepted = rw format-same (record {
-    kind = rw told (reads .kind);
+  pub again-accepted : Accepted limit (f .kind) (f .l) itsWords itsOnes itsTwos
+  again-accepted = record {
+    a-kind = rw told (reads .kind);
     letters = rw told (reads .letters);
     as-ones = length-its ∙ sym (length-row (λ e. slotOf card e .one) 0 (f .m));
     as-twos = length-its ∙ sym (length-row (λ e. slotOf card e .two) 0 (f .m));
-    count = rw told (reads .count);
-    entries = turns-hold (λ e. entryTests f e (slotFrom itsWords itsOnes itsTwos e)) (f .m) 0 (λ e h.
-        let here : 0 + e ≡ e = omega arith in
-        let own : first (entryTests (toldBy card) e (slotOf card e)) sound ≡ given sound = reads .entries e (rw told at h) in
-        rw (here, slot-same e h) (rw (sym told) at own));
-  })
+    count = rw (length-its, told) (reads .count);
+    entries = λ e h.
+        let there : e < f .m = rw length-its at h in
+        let own : first (entryTests (toldBy card) e (slotOf card e)) sound ≡ given sound = reads .entries e (rw told at there) in
+        rw (format-same, slot-same e there) (rw (sym told) at own);
+  }
 
   -- and make the card
   pub again-card : AreBytes card → cardOf (formatFor (f .kind) (f .l) itsWords) (slotFrom itsWords itsOnes itsTwos) ≡ card

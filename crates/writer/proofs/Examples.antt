@@ -1,6 +1,6 @@
 -- The writer's definitions on the scope's card S1 and at the scope's edges of the numbers, by computation. Assumes nothing.
 use mathlib.Core.Path.{_≡_, refl}
-use mathlib.Core.List.{List, [], _∷_, map}
+use mathlib.Core.List.{List, [], _∷_, _++_, map}
 use Prim.Native.Nat.{ℕ}
 use lib.ListN.{replicate}
 use Rattle.answers.specs.Numbers.{Kind, Length, Lists, Count, Word, Places, Room}
@@ -61,10 +61,11 @@ asked =
     plain pair 2 1 1024 (given 1024)
     ∷ plain pair 2 1 1023 (refused Room 0)
     ∷ plain pair 2 1 1025 (given 1024)
-    -- "l 2 and 12 pass, 1 and 13 give 6; m 1 and 504 pass, 0 and 505 give 7"
+    -- "kind, 1 pair or 2 span", before l
     ∷ plain 0 2 1 1024 (refused Kind 0)
     ∷ plain 3 1 1 1024 (refused Kind 0)
     ∷ plain 257 2 1 1024 (refused Kind 0)
+    -- "l 2 and 12 pass, 1 and 13 give 6; m 1 and 504 pass, 0 and 505 give 7"
     ∷ plain pair 1 1 1024 (refused Length 0)
     ∷ plain pair 12 1 1024 (given 1024)
     ∷ plain pair 13 0 1024 (refused Length 0)
@@ -73,7 +74,9 @@ asked =
     ∷ plain pair 2 64 1536 (given 1536)
     ∷ plain pair 2 504 4608 (given 4608)
     ∷ plain pair 2 505 0 (refused Count 0)
-    -- 13 before 7, and before the entries
+    -- 6 before 13, 13 before 7 and before the entries, 7 before the entries
+    ∷ record { kind = pair; l = 13; words = 0 ∷ []; ones = []; twos = 0 ∷ []; room = 1024; answer = refused Length 0 }
+    ∷ record { kind = pair; l = 2; words = replicate 505 99; ones = replicate 505 0; twos = replicate 505 0; room = 0; answer = refused Count 0 }
     ∷ two (0 ∷ 0 ∷ []) (0 ∷ []) (0 ∷ 0 ∷ []) 1024 (refused Lists 0)
     ∷ two (99 ∷ 0 ∷ []) (0 ∷ 0 ∷ []) (0 ∷ []) 0 (refused Lists 0)
     ∷ two [] [] (0 ∷ []) 1024 (refused Lists 0)
@@ -82,6 +85,16 @@ asked =
     ∷ two (15 ∷ 16 ∷ []) (0 ∷ 5 ∷ []) (1 ∷ 5 ∷ []) 0 (refused Word 1)
     ∷ two (15 ∷ 16 ∷ []) (0 ∷ 0 ∷ []) (0 ∷ 1 ∷ []) 1024 (refused Places 0)
     ∷ two (0 ∷ 0 ∷ []) (0 ∷ 1 ∷ []) (1 ∷ 2 ∷ []) 0 (refused Places 1)
+    -- "entry, from 0", over the whole card
+    ∷ record {
+      kind = pair;
+      l = 2;
+      words = replicate 65 0 ++ (16 ∷ []);
+      ones = replicate 66 0;
+      twos = replicate 66 noPlace;
+      room = 0;
+      answer = refused Word 65;
+    }
     -- "place m−1 passes, m gives 11; width 8 passes, 9 gives 11"
     ∷ nine 8 8 (given 1024)
     ∷ nine 8 9 (refused Places 0)

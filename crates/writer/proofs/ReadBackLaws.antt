@@ -6,11 +6,9 @@ use native.Mathlib.Omega.{arith}
 use lib.ListN.{length, getD}
 use Rattle.answers.specs.Answer.{given, sound, first}
 use Rattle.answers.specs.Row.{row}
-use Rattle.answers.proofs.Laws.{turns-held}
 use Rattle.answers.proofs.RowLaws.{row-same, row-of}
 use Rattle.entries.specs.declared.Format.{Format}
 use Rattle.entries.specs.declared.Slot.{Slot}
-use Rattle.entries.specs.Fault.{entryTests}
 use Rattle.entries.specs.Entry.{entryOf}
 use Rattle.layout.specs.Layout.{toldBy, slotOf, entryAt}
 use Rattle.layout.specs.Card.{cardOf}
@@ -22,7 +20,7 @@ use Rattle.card.proofs.SoundLaws.{Reads, reads-holds}
 use Rattle.writer.specs.Writing.{formatFor, slotFrom}
 use Rattle.writer.proofs.WritingLaws.{Accepted}
 
-module _ (limit kind l : ℕ) (words ones twos : List ℕ) where
+module _ (kind l : ℕ) (words ones twos : List ℕ) where
   abbrev format : Format
   format = formatFor kind l words
 
@@ -35,19 +33,17 @@ module _ (limit kind l : ℕ) (words ones twos : List ℕ) where
   told : toldBy card ≡ format
   told = card-told format slots
 
-  module _ (has : Accepted limit format words ones twos) where
+  module _ {limit : ℕ} (has : Accepted limit kind l words ones twos) where
     -- it is read
     accepted-reads : Reads limit card
     accepted-reads = record {
       laid = card-laid format slots;
-      kind = rw told (has .kind);
+      kind = rw told (has .a-kind);
       letters = rw told (has .letters);
       count = rw told (has .count);
       entries = λ e h.
           let there : e < length words = rw told at h in
-          let here : 0 + e ≡ e = omega arith in
-          rw (told, card-slot format slots e there)
-          (rw here at (turns-held (λ i. entryTests format i (slots i)) (length words) 0 e (has .entries) there));
+          rw (told, card-slot format slots e there) (has .entries e there);
     }
 
     pub accepted-order : first (readingOrder limit card) sound ≡ given sound

@@ -1,8 +1,10 @@
--- Both round trips of demand 2, over the contracts of the reader and of the writer, for any limit on the entries of a card.
---   read-back        "Entries that the writer accepts read back as themselves"
---   read-into        the same, into lent lists
---   written-again    "an admitted card written again gives its own bytes"
---   again-no-room    and the room is all that it can lack
+-- Both round trips of demand 2, over the contracts of the reader and of the writer. `limit` is the most entries that a card may have.
+--   read-back           "Entries that the writer accepts read back as themselves": kind, l, m, and each entry by fetch and by the head
+--   read-into           and, into lent lists, the lists that were given
+--   written-accepted, accepted-written    a card is written exactly where its kind, l, m, lengths and entries are sound (`Accepted`) and
+--                       there is room
+--   written-again       "an admitted card written again gives its own bytes"
+--   again-no-room       and room is all that it can lack
 -- Assumes nothing.
 use mathlib.Core.Path.{_≡_, refl, sym, ap, _∙_}
 use mathlib.Core.List.{List, _++_}
@@ -14,7 +16,6 @@ use Rattle.answers.specs.Numbers.{Room}
 use Rattle.answers.specs.Answer.{given, refused}
 use Rattle.answers.specs.Row.{row}
 use Rattle.answers.proofs.RowLaws.{row-same}
-use Rattle.block.specs.Bytes.{AreBytes}
 use Rattle.entries.specs.declared.Format.{Format}
 use Rattle.entries.specs.declared.Slot.{Slot}
 use Rattle.entries.specs.Entry.{entryOf}
@@ -26,11 +27,11 @@ use Rattle.card.specs.declared.Admitted.{Admitted}
 use Rattle.card.specs.Fetching.{admission, saysAdmitted, entryFetch}
 use Rattle.card.specs.Listing.{Listed}
 use Rattle.card.proofs.FetchingLaws.{admission-given, admission-admits, entry-found}
-use Rattle.card.proofs.ListingLaws.{listed-admitted, listed-words, listed-ones, listed-twos}
+use Rattle.card.proofs.ListingLaws.{Fits, listed-given, listed-admitted, listed-words, listed-ones, listed-twos}
 use Rattle.card.proofs.Steps.{Lists, lists-all}
 use Rattle.writer.specs.declared.Written.{Written}
 use Rattle.writer.specs.Writing.{formatFor, slotFrom, saysWritten, Writes}
-use Rattle.writer.proofs.WritingLaws.{wrote-accepted, wrote-size, wrote-bytes, wrote-card, wrote-nothing}
+use Rattle.writer.proofs.WritingLaws.{Accepted, wrote-accepted, wrote-room, wrote-size, wrote-bytes, wrote-card, wrote-nothing}
 use Rattle.writer.proofs.ReadBackLaws.{accepted-order, written-entry-is, written-numbers}
 use Rattle.writer.proofs.AgainLaws.{itsWords, itsOnes, itsTwos, length-its, admitted-size, again-accepted, again-card}
 
@@ -54,45 +55,56 @@ module _ {limit kind l : ℕ} {words ones twos before after : List ℕ} {r : Wri
 
   made-admitted : admission limit made ≡ given (formatFor kind l words)
   made-admitted =
-      admission-given limit made (accepted-order limit kind l words ones twos (wrote-accepted did said))
+      admission-given limit made (accepted-order kind l words ones twos (wrote-accepted did said))
       ∙ ap given (card-told (formatFor kind l words) (slotFrom words ones twos))
 
   made-fetched : (e : ℕ) → e < length words → entryFetch limit made e ≡ given (entryOf kind (slotFrom words ones twos e))
   made-fetched e h =
-      entry-found limit made (admission-admits limit made made-admitted) e h ∙ ap given (written-entry-is limit kind l words ones twos e h)
+      entry-found limit made (admission-admits limit made made-admitted) e h ∙ ap given (written-entry-is kind l words ones twos e h)
 
   made-stepped : Lists limit made 0 (row (λ e. entryOf kind (slotFrom words ones twos e)) 0 (length words))
   made-stepped =
       let same = row-same (entryAt made) (λ e. entryOf kind (slotFrom words ones twos e)) 0 (length words) (λ e h.
       let here : 0 + e ≡ e = omega arith in
-      rw here (written-entry-is limit kind l words ones twos e h)) in
+      rw here (written-entry-is kind l words ones twos e h)) in
       rw same at (lists-all limit made made-admitted)
 
   pub read-back : GivesBack limit kind l words ones twos (take n after)
   read-back = rw made-is (record { admitted = made-admitted; fetched = made-fetched; stepped = made-stepped })
 
-  -- admitted into lent lists, their first slots are the lists that were given
-  pub read-into : {a b c a′ b′ c′ : List ℕ} {q : Admitted} {f : Format} → Listed limit (take n after) a b c q a′ b′ c′
-      → saysAdmitted q ≡ given f
-      → (f ≡ formatFor kind l words) × (take (f .m) a′ ≡ words) × (take (f .m) b′ ≡ ones) × (take (f .m) c′ ≡ twos)
+  -- admitted into lent lists that have room, it fills their first slots with the lists that were given
+  pub read-into : {a b c a′ b′ c′ : List ℕ} {q : Admitted} → Listed limit (take n after) a b c q a′ b′ c′
+      → Fits (length words) (length a) (length b) (length c)
+      → (saysAdmitted q ≡ given (formatFor kind l words))
+      × (take (length words) a′ ≡ words) × (take (length words) b′ ≡ ones) × (take (length words) c′ ≡ twos)
   unfolding slotFrom
-  read-into {f = f} listed told =
+  read-into listed fits =
       let has = wrote-accepted did said in
-      let numbers = written-numbers limit kind l words ones twos in
-      let both-given : given f ≡ given (formatFor kind l words) =
-      sym (listed-admitted listed told) ∙ ap (admission limit) made-is ∙ made-admitted in
-      let same : f ≡ formatFor kind l words = cc in
-      let of-card : (numberOf : Slot → ℕ) → row (λ e. numberOf (slotOf (take n after) e)) 0 (f .m)
+      let numbers = written-numbers kind l words ones twos in
+      let told = listed-given listed (read-back .admitted) fits in
+      let of-card : (numberOf : Slot → ℕ) → row (λ e. numberOf (slotOf (take n after) e)) 0 (length words)
       ≡ row (λ e. numberOf (slotOf made e)) 0 (length words) =
-      λ numberOf. rw (made-is, same) in (
-        same,
+      λ numberOf. rw made-is in (
+        told,
         listed-words listed told ∙ of-card (λ s. s .word) ∙ numbers (λ s. s .word) words refl (λ e. refl),
         listed-ones listed told ∙ of-card (λ s. s .one) ∙ numbers (λ s. s .one) ones (sym (has .as-ones)) (λ e. refl),
         listed-twos listed told ∙ of-card (λ s. s .two) ∙ numbers (λ s. s .two) twos (sym (has .as-twos)) (λ e. refl),
       )
 
+-- what is written was accepted and had room
+pub written-accepted : {limit kind l : ℕ} {words ones twos before after : List ℕ} {r : Written} {n : ℕ}
+    → Writes limit kind l words ones twos before r after → saysWritten r ≡ given n
+    → Accepted limit kind l words ones twos × (sizeOf (length words) ≤ length before)
+written-accepted did said = (wrote-accepted did said, wrote-room did said)
+
+-- lists that are accepted are written, where there is room
+pub accepted-written : {limit kind l : ℕ} {words ones twos before after : List ℕ} {r : Written}
+    → Writes limit kind l words ones twos before r after → Accepted limit kind l words ones twos → sizeOf (length words) ≤ length before
+    → saysWritten r ≡ given (sizeOf (length words))
+accepted-written did has room = wrote-card did has room .0
+
 -- a card that was admitted into lists, and its lists written
-module _ {limit : ℕ} {card a b c a′ b′ c′ : List ℕ} {q : Admitted} {f : Format} (bytes : AreBytes card)
+module _ {limit : ℕ} {card a b c a′ b′ c′ : List ℕ} {q : Admitted} {f : Format}
     (listed : Listed limit card a b c q a′ b′ c′) (told : saysAdmitted q ≡ given f)
     {before after : List ℕ} {r : Written}
     (did : Writes limit (f .kind) (f .l) (take (f .m) a′) (take (f .m) b′) (take (f .m) c′) before r after) where
@@ -110,7 +122,7 @@ module _ {limit : ℕ} {card a b c a′ b′ c′ : List ℕ} {q : Admitted} {f 
   pub written-again : length card ≤ length before → (saysWritten r ≡ given (length card)) × (after ≡ card ++ drop (length card) before)
   written-again room =
       let wrote = wrote-card own-lists (again-accepted limit card admitted) (rw own-size room) in
-      rw (own-size, again-card limit card admitted bytes) at wrote
+      rw (own-size, again-card limit card admitted (listed .of-bytes)) at wrote
 
   pub again-no-room : length before < length card → (saysWritten r ≡ refused Room 0) × (after ≡ before)
   again-no-room short = wrote-nothing own-lists (again-accepted limit card admitted) (rw own-size short)

@@ -6,12 +6,12 @@ use Prim.Native.Nat.{ℕ, _+_, _≤_, _<_}
 use native.Mathlib.Omega.{arith}
 use lib.ListN.{length, drop}
 use lib.Dec.{eqb}
-use borrow.Author.Tests.{eq-eqb, ne-eqb, eqb-true, le-leb, lt-leb}
+use borrow.Author.Tests.{eq-eqb, ne-eqb, eqb-true, le-leb, lt-leb, leb-true}
 use Rattle.answers.specs.declared.Refusal.{Refusal}
 use Rattle.answers.specs.Numbers.{Kind, Length, Lists, Count, Room}
 use Rattle.answers.specs.Answer.{given, refused, sound, first}
 use Rattle.answers.specs.Row.{inTurn}
-use Rattle.answers.proofs.Laws.{first-pass, first-fail, first-last, first-passed, first-holds, first-refused, first-both, first-value}
+use Rattle.answers.proofs.Laws.{first-pass, first-fail, first-last, first-passed, first-holds, first-refused, first-both, first-value, turns-hold, turns-held}
 use Rattle.answers.proofs.Tests.{both}
 use Rattle.entries.specs.declared.Format.{Format}
 use Rattle.entries.specs.Fault.{leastLength, mostLength, entryTests}
@@ -24,84 +24,89 @@ use Rattle.writer.specs.Writing.{formatFor, slotFrom, sameLength, listsT
 
 -- ---- three lengths
 
-module _ (words ones twos : ℕ) where
-  pub lengths-differ : (words ≡ ones → ⊥) → false ≡ sameLength words ones twos
-  lengths-differ n = rw (ne-eqb words ones n)
+module _ (words ones twos : List ℕ) where
+  pub lengths-differ : (length words ≡ length ones → ⊥) → false ≡ sameLength words ones twos
+  lengths-differ n = rw (ne-eqb (length words) (length ones) n)
 
-  pub lengths-if : words ≡ ones → eqb words twos ≡ sameLength words ones twos
-  lengths-if e = rw (eq-eqb words ones e)
+  pub lengths-if : length words ≡ length ones → eqb (length words) (length twos) ≡ sameLength words ones twos
+  lengths-if e = rw (eq-eqb (length words) (length ones) e)
 
   -- what holds where they are the same
-  pub lengths-same : sameLength words ones twos ≡ true → (words ≡ ones) × (words ≡ twos)
-  lengths-same h = let parts = both (eqb words ones) (eqb words twos) h in (eqb-true words ones (parts .0), eqb-true words twos (parts .1))
+  pub lengths-same : sameLength words ones twos ≡ true → (length words ≡ length ones) × (length words ≡ length twos)
+  lengths-same h =
+      let parts = both (eqb (length words) (length ones)) (eqb (length words) (length twos)) h in
+      (eqb-true (length words) (length ones) (parts .0), eqb-true (length words) (length twos) (parts .1))
 
 -- ---- the lists
 
-module _ (limit : ℕ) (f : Format) (words ones twos : List ℕ) where
-  pub kind-wrong : isKind (f .kind) ≡ false → first (listsTests limit f words ones twos) sound ≡ refused Kind 0
+module _ (limit kind l : ℕ) (words ones twos : List ℕ) where
+  pub kind-wrong : isKind kind ≡ false → first (listsTests limit kind l words ones twos) sound ≡ refused Kind 0
   unfolding listsTests
   kind-wrong h = first-fail _ _ _ _ _ h
 
-  module _ (kind : isKind (f .kind) ≡ true) where
-    pub length-wrong : isWithin leastLength mostLength (f .l) ≡ false → first (listsTests limit f words ones twos) sound ≡ refused Length 0
+  module _ (kind-ok : isKind kind ≡ true) where
+    pub length-wrong : isWithin leastLength mostLength l ≡ false → first (listsTests limit kind l words ones twos) sound ≡ refused Length 0
     unfolding listsTests
-    length-wrong h = first-pass _ _ _ _ _ kind ∙ first-fail _ _ _ _ _ h
+    length-wrong h = first-pass _ _ _ _ _ kind-ok ∙ first-fail _ _ _ _ _ h
 
-    module _ (letters : isWithin leastLength mostLength (f .l) ≡ true) where
-      pub lists-wrong : sameLength (length words) (length ones) (length twos) ≡ false
-          → first (listsTests limit f words ones twos) sound ≡ refused Lists 0
+    module _ (letters : isWithin leastLength mostLength l ≡ true) where
+      pub lists-wrong : sameLength words ones twos ≡ false → first (listsTests limit kind l words ones twos) sound ≡ refused Lists 0
       unfolding listsTests
-      lists-wrong h = first-pass _ _ _ _ _ kind ∙ first-pass _ _ _ _ _ letters ∙ first-fail _ _ _ _ _ h
+      lists-wrong h = first-pass _ _ _ _ _ kind-ok ∙ first-pass _ _ _ _ _ letters ∙ first-fail _ _ _ _ _ h
 
-      module _ (same : sameLength (length words) (length ones) (length twos) ≡ true) where
-        pub count-wrong : isWithin leastEntries limit (f .m) ≡ false → first (listsTests limit f words ones twos) sound ≡ refused Count 0
+      module _ (same : sameLength words ones twos ≡ true) where
+        pub count-wrong : isWithin leastEntries limit (length words) ≡ false
+            → first (listsTests limit kind l words ones twos) sound ≡ refused Count 0
         unfolding listsTests
         count-wrong h =
-            first-pass _ _ _ _ _ kind ∙ first-pass _ _ _ _ _ letters ∙ first-pass _ _ _ _ _ same ∙ first-fail _ _ _ _ _ h
+            first-pass _ _ _ _ _ kind-ok ∙ first-pass _ _ _ _ _ letters ∙ first-pass _ _ _ _ _ same ∙ first-fail _ _ _ _ _ h
 
         -- then the entries answer
-        pub lists-go-on : isWithin leastEntries limit (f .m) ≡ true
-            → first (inTurn (λ e. entryTests f e (slotFrom words ones twos e)) 0 (f .m)) sound
-            ≡ first (listsTests limit f words ones twos) sound
+        pub lists-go-on : isWithin leastEntries limit (length words) ≡ true
+            → first (inTurn (λ e. entryTests (formatFor kind l words) e (slotFrom words ones twos e)) 0 (length words)) sound
+            ≡ first (listsTests limit kind l words ones twos) sound
         unfolding listsTests
         lists-go-on h =
             sym
-            (first-pass _ _ _ _ _ kind ∙ first-pass _ _ _ _ _ letters ∙ first-pass _ _ _ _ _ same ∙ first-pass _ _ _ _ _ h)
+            (first-pass _ _ _ _ _ kind-ok ∙ first-pass _ _ _ _ _ letters ∙ first-pass _ _ _ _ _ same ∙ first-pass _ _ _ _ _ h)
 
--- what lists that are accepted have
-pub record Accepted (limit : ℕ) (f : Format) (words ones twos : List ℕ) : Type 0 where
-  pub kind : isKind (f .kind) ≡ true
-  pub letters : isWithin leastLength mostLength (f .l) ≡ true
+-- the lists that are accepted: a kind, l and m within their bounds, one length, and each entry sound
+pub record Accepted (limit kind l : ℕ) (words ones twos : List ℕ) : Type 0 where
+  pub a-kind : isKind kind ≡ true
+  pub letters : isWithin leastLength mostLength l ≡ true
   pub as-ones : length words ≡ length ones
   pub as-twos : length words ≡ length twos
-  pub count : isWithin leastEntries limit (f .m) ≡ true
-  pub entries : first (inTurn (λ e. entryTests f e (slotFrom words ones twos e)) 0 (f .m)) sound ≡ given sound
+  pub count : isWithin leastEntries limit (length words) ≡ true
+  pub entries : (e : ℕ) → e < length words → first (entryTests (formatFor kind l words) e (slotFrom words ones twos e)) sound ≡ given sound
 
-pub lists-accepted : (limit : ℕ) (f : Format) (words ones twos : List ℕ) → first (listsTests limit f words ones twos) sound ≡ given sound
-    → Accepted limit f words ones twos
-unfolding listsTests
-lists-accepted limit f words ones twos e =
-    let kind = first-passed _ _ _ _ _ _ e in
-    let letters = first-passed _ _ _ _ _ _ (kind .1) in
-    let lists = first-passed _ _ _ _ _ _ (letters .1) in
-    let count = first-passed _ _ _ _ _ _ (lists .1) in
-    let same = lengths-same (length words) (length ones) (length twos) (lists .0) in
-    record {
-      kind = kind .0;
-      letters = letters .0;
-      as-ones = same .0;
-      as-twos = same .1;
-      count = count .0;
-      entries = count .1;
-    }
+module _ {limit kind l : ℕ} {words ones twos : List ℕ} where
+  pub lists-accepted : first (listsTests limit kind l words ones twos) sound ≡ given sound → Accepted limit kind l words ones twos
+  unfolding listsTests
+  lists-accepted e =
+      let a-kind = first-passed _ _ _ _ _ _ e in
+      let letters = first-passed _ _ _ _ _ _ (a-kind .1) in
+      let lists = first-passed _ _ _ _ _ _ (letters .1) in
+      let count = first-passed _ _ _ _ _ _ (lists .1) in
+      let same = lengths-same words ones twos (lists .0) in
+      record {
+        a-kind = a-kind .0;
+        letters = letters .0;
+        as-ones = same .0;
+        as-twos = same .1;
+        count = count .0;
+        entries = λ i h.
+            let here : 0 + i ≡ i = omega arith in
+            rw here at (turns-held (λ j. entryTests (formatFor kind l words) j (slotFrom words ones twos j)) (length words) 0 i (count .1) h);
+      }
 
--- and lists that have that are accepted
-pub accepted-lists : {limit : ℕ} {f : Format} {words ones twos : List ℕ} → Accepted limit f words ones twos
-    → first (listsTests limit f words ones twos) sound ≡ given sound
-accepted-lists {limit} {f} {words} {ones} {twos} has =
-    let same : sameLength (length words) (length ones) (length twos) ≡ true =
-    rw (eq-eqb (length words) (length ones) (has .as-ones)) (eq-eqb (length words) (length twos) (has .as-twos)) in
-    sym (lists-go-on limit f words ones twos (has .kind) (has .letters) same (has .count)) ∙ has .entries
+  pub accepted-lists : Accepted limit kind l words ones twos → first (listsTests limit kind l words ones twos) sound ≡ given sound
+  accepted-lists has =
+      let same : sameLength words ones twos ≡ true =
+      rw (eq-eqb (length words) (length ones) (has .as-ones)) (eq-eqb (length words) (length twos) (has .as-twos)) in
+      sym (lists-go-on limit kind l words ones twos (has .a-kind) (has .letters) same (has .count))
+      ∙ turns-hold (λ j. entryTests (formatFor kind l words) j (slotFrom words ones twos j)) (length words) 0 (λ i h.
+      let here : 0 + i ≡ i = omega arith in
+      rw here (has .entries i h))
 
 -- ---- the three outcomes
 
@@ -114,15 +119,15 @@ module _ (limit kind l : ℕ) (words ones twos before : List ℕ) where
       → Writes limit kind l words ones twos before (Refused n) before
   untouched e = record { answer = sym e; bytes = rw e }
 
-  pub lists-refused : {n : Refusal} → first (listsTests limit format words ones twos) sound ≡ refused (n .number) (n .place)
+  pub lists-refused : {n : Refusal} → first (listsTests limit kind l words ones twos) sound ≡ refused (n .number) (n .place)
       → Writes limit kind l words ones twos before (Refused n) before
   unfolding writing
-  lists-refused e = untouched (first-refused _ _ (listsTests limit format words ones twos) e)
+  lists-refused e = untouched (first-refused _ _ (listsTests limit kind l words ones twos) e)
 
-  module _ (accepted : first (listsTests limit format words ones twos) sound ≡ given sound) where
+  module _ (accepted : first (listsTests limit kind l words ones twos) sound ≡ given sound) where
     room-refused : length before < sizeOf (length words) → writing limit kind l words ones twos (length before) ≡ refused Room 0
     unfolding writing
-    room-refused h = first-holds _ _ (listsTests limit format words ones twos) accepted ∙ first-fail _ _ _ _ _ (lt-leb _ _ h)
+    room-refused h = first-holds _ _ (listsTests limit kind l words ones twos) accepted ∙ first-fail _ _ _ _ _ (lt-leb _ _ h)
 
     pub no-room : length before < sizeOf (length words)
         → Writes limit kind l words ones twos before (Refused (record { number = Room; place = 0 })) before
@@ -131,7 +136,7 @@ module _ (limit kind l : ℕ) (words ones twos before : List ℕ) where
     pub card-given : sizeOf (length words) ≤ length before
         → writing limit kind l words ones twos (length before) ≡ given (sizeOf (length words))
     unfolding writing
-    card-given h = first-holds _ _ (listsTests limit format words ones twos) accepted ∙ first-last _ _ _ _ (le-leb _ _ h)
+    card-given h = first-holds _ _ (listsTests limit kind l words ones twos) accepted ∙ first-last _ _ _ _ (le-leb _ _ h)
 
     pub card-written : {n : ℕ} {after : List ℕ} → n ≡ sizeOf (length words) → n ≤ length before
         → after ≡ cardOf format (slotFrom words ones twos) ++ drop n before
@@ -147,11 +152,14 @@ module _ {limit kind l : ℕ} {words ones twos before after : List ℕ} {r : Wri
   writing-said : writing limit kind l words ones twos (length before) ≡ given n
   writing-said = sym (did .answer) ∙ said
 
-  pub wrote-accepted : Accepted limit (formatFor kind l words) words ones twos
+  pub wrote-accepted : Accepted limit kind l words ones twos
   unfolding writing
   wrote-accepted =
-      lists-accepted limit (formatFor kind l words) words ones twos
-      (first-both _ _ (listsTests limit (formatFor kind l words) words ones twos) _ writing-said .0)
+      lists-accepted (first-both _ _ (listsTests limit kind l words ones twos) _ writing-said .0)
+
+  pub wrote-room : sizeOf (length words) ≤ length before
+  unfolding writing
+  wrote-room = leb-true _ _ (first-passed _ _ _ _ _ _ (first-both _ _ (listsTests limit kind l words ones twos) _ writing-said .1) .0)
 
   pub wrote-size : sizeOf (length words) ≡ n
   unfolding writing
@@ -162,7 +170,7 @@ module _ {limit kind l : ℕ} {words ones twos before after : List ℕ} {r : Wri
 
 -- of lists that are accepted: the room decides
 module _ {limit kind l : ℕ} {words ones twos before after : List ℕ} {r : Written}
-    (did : Writes limit kind l words ones twos before r after) (has : Accepted limit (formatFor kind l words) words ones twos) where
+    (did : Writes limit kind l words ones twos before r after) (has : Accepted limit kind l words ones twos) where
   pub wrote-card : sizeOf (length words) ≤ length before
       → (saysWritten r ≡ given (sizeOf (length words)))
       × (after ≡ cardOf (formatFor kind l words) (slotFrom words ones twos) ++ drop (sizeOf (length words)) before)

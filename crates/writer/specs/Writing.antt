@@ -3,7 +3,7 @@
 --   formatFor kind l words            == the format of a card of these words: it has as many entries as there are words
 --   slotFrom words ones twos e        == entry e of the lists, as it is stored
 --   sameLength words ones twos        == the lists have one length
---   listsTests limit f words ones twos    == the tests of the lists, in their order
+--   listsTests limit kind l words ones twos    == the tests of the lists, in their order
 --   writing limit kind l words ones twos room    == what the writer answers, where the output has `room` bytes
 --   outputAfter card before answer    == the output after the answer, where it was `before`
 --   Writes …                          == the answer, and every byte of the output afterwards
@@ -33,23 +33,23 @@ unfoldable pub slotFrom : List ℕ → List ℕ → List ℕ → ℕ → Slot
 slotFrom words ones twos e = record { word = getD words e 0; one = getD ones e 0; two = getD twos e 0 }
 
 -- the reverse of "the writer's three lists differ in length"
-abbrev pub sameLength : ℕ → ℕ → ℕ → Bool
-sameLength words ones twos = eqb words ones && eqb words twos
+abbrev pub sameLength : List ℕ → List ℕ → List ℕ → Bool
+sameLength words ones twos = eqb (length words) (length ones) && eqb (length words) (length twos)
 
 -- 5, 6, 13, 7, entries in turn (10, 11)
-unfoldable pub listsTests : ℕ → Format → List ℕ → List ℕ → List ℕ → List Test
-listsTests limit f words ones twos =
-    test (isKind (f .kind)) Kind 0
-    ∷ test (isWithin leastLength mostLength (f .l)) Length 0
-    ∷ test (sameLength (length words) (length ones) (length twos)) Lists 0
-    ∷ test (isWithin leastEntries limit (f .m)) Count 0
-    ∷ inTurn (λ e. entryTests f e (slotFrom words ones twos e)) 0 (f .m)
+unfoldable pub listsTests : ℕ → ℕ → ℕ → List ℕ → List ℕ → List ℕ → List Test
+listsTests limit kind l words ones twos =
+    test (isKind kind) Kind 0
+    ∷ test (isWithin leastLength mostLength l) Length 0
+    ∷ test (sameLength words ones twos) Lists 0
+    ∷ test (isWithin leastEntries limit (length words)) Count 0
+    ∷ inTurn (λ e. entryTests (formatFor kind l words) e (slotFrom words ones twos e)) 0 (length words)
 
 -- then 12: "for the writer below the card's size"; "the writer answers the card's length in bytes"
 unfoldable pub writing : ℕ → ℕ → ℕ → List ℕ → List ℕ → List ℕ → ℕ → Answer ℕ
 writing limit kind l words ones twos room =
     first
-    (listsTests limit (formatFor kind l words) words ones twos ++ (test (leb (sizeOf (length words)) room) Room 0 ∷ []))
+    (listsTests limit kind l words ones twos ++ (test (leb (sizeOf (length words)) room) Room 0 ∷ []))
     (sizeOf (length words))
 
 abbrev pub saysWritten : Written → Answer ℕ

@@ -38,12 +38,12 @@ fn slot_from(words: &[u32], ones: &[u16], twos: &[u16], e: usize) -> Slot
     }
 }
 
-// Whether three lists have one length.
-fn same_length(words: usize, ones: usize, twos: usize) -> bool
-    ensures { λ r. ⌜ r ≡ sameLength words ones twos ⌝ }
+// Whether the lists have one length.
+fn same_length(words: &[u32], ones: &[u16], twos: &[u16]) -> bool
+    ensures { λ r. ⌜ r ≡ sameLength (now (words .entry)) (now (ones .entry)) (now (twos .entry)) ⌝ }
 {
-    if words == ones {
-        return words == twos;
+    if words.len() == ones.len() {
+        return words.len() == twos.len();
     }
     false
 }
@@ -66,38 +66,38 @@ fn entries_hold(f: Format, words: &[u32], ones: &[u16], twos: &[u16]) -> Held
     Held::Holds
 }
 
-// The kind, the letters of a word, and the lists, which are to be a card of this format.
-fn lists_hold(f: Format, words: &[u32], ones: &[u16], twos: &[u16]) -> Held
-    requires { ⌜ f .m ≡ length (now words) ⌝ }
+// The kind, the letters of a word, and the lists.
+fn lists_hold(kind: usize, l: usize, words: &[u32], ones: &[u16], twos: &[u16]) -> Held
     ensures { λ r. ⌜
-        saysHeld r ≡ first (listsTests mostEntries f (now (words .entry)) (now (ones .entry)) (now (twos .entry))) sound
+        saysHeld r ≡ first (listsTests mostEntries kind l (now (words .entry)) (now (ones .entry)) (now (twos .entry))) sound
         ⌝ }
 {
-    if !layout::is_kind(f.kind) {
+    if !layout::is_kind(kind) {
         return Held::Refused(Refusal {
             number: answers::KIND,
             place: 0,
         });
     }
-    if !layout::is_length(f.l) {
+    if !layout::is_length(l) {
         return Held::Refused(Refusal {
             number: answers::LENGTH,
             place: 0,
         });
     }
-    if !same_length(words.len(), ones.len(), twos.len()) {
+    if !same_length(words, ones, twos) {
         return Held::Refused(Refusal {
             number: answers::LISTS,
             place: 0,
         });
     }
-    if !layout::is_count(f.m) {
+    let m = words.len();
+    if !layout::is_count(m) {
         return Held::Refused(Refusal {
             number: answers::COUNT,
             place: 0,
         });
     }
-    entries_hold(f, words, ones, twos)
+    entries_hold(Format { kind, l, m }, words, ones, twos)
 }
 
 // Writes n entries of the lists, from entry e on, into a part from its first byte on.
@@ -160,21 +160,17 @@ pub fn write(
         Writes mostEntries kind l (now (words .entry)) (now (ones .entry)) (now (twos .entry)) (now (out .entry)) r (now (out .exit))
         ⌝ }
 {
-    let f = Format {
-        kind,
-        l,
-        m: words.len(),
-    };
-    if let Held::Refused(r) = lists_hold(f, words, ones, twos) {
+    if let Held::Refused(r) = lists_hold(kind, l, words, ones, twos) {
         return Written::Refused(r);
     }
-    let size = layout::size_of(f.m);
+    let m = words.len();
+    let size = layout::size_of(m);
     if out.len() < size {
         return Written::Refused(Refusal {
             number: answers::ROOM,
             place: 0,
         });
     }
-    put_card(&mut out[..size], f, words, ones, twos);
+    put_card(&mut out[..size], Format { kind, l, m }, words, ones, twos);
     Written::Card(size)
 }

@@ -1,12 +1,10 @@
 -- `layout::put_head` meets its contract: four bytes, m and the seal are block 0 (`head-made`). Assumes nothing.
 use borrow.Author.Needs.{needs}
 use native.Mathlib.Omega.{arith}
-use lib.ListN.{length, set, length-set}
+use lib.ListN.{length-set}
 use mathlib.Core.List.{List}
 use Prim.Native.Nat.{ℕ}
 use Rattle.entries.specs.declared.Format.{Format}
-use mathlib.Core.Path.{_≡_}
-use Rattle.layout.specs.Bounds.{theForm}
 use Rattle.layout.proofs.CardLaws.{head-made}
 use Rattle.layout.proofs.put_head.Statement.{statement}
 use Rattle.layout.proofs.put_head.Tie as tie
@@ -21,10 +19,6 @@ module _ (c : tie.After-put-two) where
 
   abbrev format : Format
   format = start .args .f
-
-  -- the bytes of the fields change no length
-  four-set : length (set (set (set (set before 0 theForm) 1 (format .kind)) 2 (format .l)) 3 0) ≡ length before
-  four-set = simp length-set
 
 slice-write-part : tie.Need-slice-write-part
 slice-write-part c = search needs
@@ -51,10 +45,15 @@ put-two-requires : tie.Need-put-two-requires
 put-two-requires c κs = simp length-set (omega (arith, c .before .before .before .before .before .pre .0))
 
 seal-requires : tie.Need-seal-requires
-seal-requires c κs = let at-m = c .before .before .before in omega (arith, four-set at-m, start at-m .pre .0)
+seal-requires c κs =
+    let at-m = c .before .before .before in
+    let same = simp length-set at (c .before .before .part .given) in
+    omega (arith, same, start at-m .pre .0)
 
 same-length : tie.Need-same-length
-same-length c = let at-m = c .before .before .before .before .before .before in omega (arith, four-set at-m)
+same-length c =
+    let same = simp length-set at (c .before .before .before .before .before .part .given) in
+    omega (arith, same)
 
 returns : tie.Need-returns
 returns c =

@@ -19,14 +19,14 @@ module _ (c : tie.Else1) where
   abbrev start : tie.Start
   start = c .before .before .before .before .before
 
-  kind-ok : isKind (start .args .f .kind) ≡ true
+  kind-ok : isKind (start .args .kind) ≡ true
   kind-ok = passed (c .before .is-kind .ensures) (c .if1 .left)
 
 module _ (c : tie.Else2) where
   abbrev past-kind : tie.Else1
   past-kind = c .before .before
 
-  letters-ok : isWithin leastLength mostLength (start past-kind .args .f .l) ≡ true
+  letters-ok : isWithin leastLength mostLength (start past-kind .args .l) ≡ true
   letters-ok = passed (c .before .is-length .ensures) (c .if2 .left)
 
 module _ (c : tie.Else3) where
@@ -36,14 +36,14 @@ module _ (c : tie.Else3) where
   abbrev args-of : tie.Start
   args-of = start (past-kind past-letters)
 
-  lists-ok : sameLength (length (args-of .args .words .now)) (length (args-of .args .ones .now)) (length (args-of .args .twos .now)) ≡ true
+  lists-ok : sameLength (args-of .args .words .now) (args-of .args .ones .now) (args-of .args .twos .now) ≡ true
   lists-ok = passed (c .before .same-length .ensures) (c .if3 .left)
 
 module _ (c : tie.Else4) where
   abbrev past-lists : tie.Else3
   past-lists = c .before .before
 
-  count-ok : isWithin leastEntries mostEntries (args-of past-lists .args .f .m) ≡ true
+  count-ok : isWithin leastEntries mostEntries (length (args-of past-lists .args .words .now)) ≡ true
   count-ok = passed (c .before .is-count .ensures) (c .if4 .left)
 
 -- ---- the needs
@@ -52,13 +52,13 @@ is-kind-requires : tie.Need-is-kind-requires
 is-kind-requires c κs = search needs
 
 returns : tie.Need-returns
-returns c = sym (kind-wrong _ _ _ _ _ (failed (c .before .is-kind .ensures) (c .if1 .taken)))
+returns c = sym (kind-wrong _ _ _ _ _ _ (failed (c .before .is-kind .ensures) (c .if1 .taken)))
 
 is-length-requires : tie.Need-is-length-requires
 is-length-requires c κs = search needs
 
 returns-2 : tie.Need-returns-2
-returns-2 c = sym (length-wrong _ _ _ _ _ (kind-ok (c .before .before)) (failed (c .before .is-length .ensures) (c .if2 .taken)))
+returns-2 c = sym (length-wrong _ _ _ _ _ _ (kind-ok (c .before .before)) (failed (c .before .is-length .ensures) (c .if2 .taken)))
 
 same-length-requires : tie.Need-same-length-requires
 same-length-requires c κs = search needs
@@ -67,7 +67,7 @@ returns-3 : tie.Need-returns-3
 returns-3 c =
     let at = c .before .before in
     let wrong = failed (c .before .same-length .ensures) (c .if3 .taken) in
-    sym (lists-wrong _ _ _ _ _ (kind-ok (past-kind at)) (letters-ok at) wrong)
+    sym (lists-wrong _ _ _ _ _ _ (kind-ok (past-kind at)) (letters-ok at) wrong)
 
 is-count-requires : tie.Need-is-count-requires
 is-count-requires c κs = search needs
@@ -77,15 +77,15 @@ returns-4 c =
     let at = c .before .before in
     let letters = past-letters at in
     let wrong = failed (c .before .is-count .ensures) (c .if4 .taken) in
-    sym (count-wrong _ _ _ _ _ (kind-ok (past-kind letters)) (letters-ok letters) (lists-ok at) wrong)
+    sym (count-wrong _ _ _ _ _ _ (kind-ok (past-kind letters)) (letters-ok letters) (lists-ok at) wrong)
 
 entries-hold-requires : tie.Need-entries-hold-requires
 entries-hold-requires c κs =
     let lists = past-lists c in
     let at = args-of lists in
-    let same = lengths-same (length (at .args .words .now)) (length (at .args .ones .now)) (length (at .args .twos .now)) (lists-ok lists) in
-    let letters = within-both leastLength mostLength (at .args .f .l) (letters-ok (past-letters lists)) in
-    omega (arith, letters .1, at .pre, same .0, same .1)
+    let same = lengths-same (at .args .words .now) (at .args .ones .now) (at .args .twos .now) (lists-ok lists) in
+    let letters = within-both leastLength mostLength (at .args .l) (letters-ok (past-letters lists)) in
+    omega (arith, letters .1, same .0, same .1)
 
 returns-5 : tie.Need-returns-5
 returns-5 c =
@@ -93,7 +93,7 @@ returns-5 c =
     let lists = past-lists at in
     let letters = past-letters lists in
     c .entries-hold .ensures
-    ∙ lists-go-on _ _ _ _ _ (kind-ok (past-kind letters)) (letters-ok letters) (lists-ok lists) (count-ok at)
+    ∙ lists-go-on _ _ _ _ _ _ (kind-ok (past-kind letters)) (letters-ok letters) (lists-ok lists) (count-ok at)
 
 pub lists-hold-spec : {M : Type 1} → statement M
 lists-hold-spec =

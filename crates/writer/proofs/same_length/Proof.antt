@@ -4,10 +4,14 @@ use Rattle.writer.proofs.same_length.Statement.{statement}
 use Rattle.writer.proofs.same_length.Tie as tie
 
 returns : tie.Need-returns
-returns c = lengths-if _ _ _ (c .if1 .taken)
+returns c =
+    let args = c .before .args in
+    lengths-if (args .words .now) (args .ones .now) (args .twos .now) (c .if1 .taken)
 
 returns-2 : tie.Need-returns-2
-returns-2 c = lengths-differ _ _ _ (c .if1 .left)
+returns-2 c =
+    let args = c .before .args in
+    lengths-differ (args .words .now) (args .ones .now) (args .twos .now) (c .if1 .left)
 
 pub same-length-spec : {M : Type 1} → statement M
 same-length-spec = tie.close (tie.spec returns returns-2)

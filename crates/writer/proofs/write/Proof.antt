@@ -10,7 +10,7 @@ use Rattle.answers.proofs.Laws.{told-holds, told-refused}
 use Rattle.entries.specs.Fault.{leastLength, mostLength}
 use Rattle.layout.specs.Bounds.{leastEntries, mostEntries}
 use Rattle.layout.proofs.Laws.{within-both, kind-below}
-use Rattle.writer.specs.Writing.{formatFor, listsTests}
+use Rattle.writer.specs.Writing.{listsTests}
 use Rattle.writer.proofs.WritingLaws.{Accepted, lists-accepted, lists-refused, no-room, card-written}
 use Rattle.writer.proofs.write.Statement.{statement}
 use Rattle.writer.proofs.write.Tie as tie
@@ -24,14 +24,12 @@ module _ (c : tie.After-enum-told) where
   abbrev words : List ℕ
   words = start .args .words .now
 
-  accepted : first
-      (listsTests mostEntries (formatFor (start .args .kind) (start .args .l) words) words (start .args .ones .now) (start .args .twos .now))
-      sound
+  accepted : first (listsTests mostEntries (start .args .kind) (start .args .l) words (start .args .ones .now) (start .args .twos .now)) sound
       ≡ given sound
   accepted = told-holds (c .before .before .lists-hold .ensures) (c .enum-told .given .1)
 
-  has : Accepted mostEntries (formatFor (start .args .kind) (start .args .l) words) words (start .args .ones .now) (start .args .twos .now)
-  has = lists-accepted _ _ _ _ _ accepted
+  has : Accepted mostEntries (start .args .kind) (start .args .l) words (start .args .ones .now) (start .args .twos .now)
+  has = lists-accepted accepted
 
 -- ---- the needs
 
@@ -72,7 +70,7 @@ put-card-requires c κs =
     let size = sized .size-of .result in
     omega (
       arith,
-      kind-below (at .args .kind) (has past .kind),
+      kind-below (at .args .kind) (has past .a-kind),
       within-both leastLength mostLength (at .args .l) (has past .letters) .1,
       within-both leastEntries mostEntries (length (words past)) (has past .count) .1,
       length-take size (at .args .out .now),

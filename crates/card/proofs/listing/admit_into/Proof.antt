@@ -4,6 +4,7 @@ use mathlib.Core.Path.{_≡_, sym, ap, _∙_}
 use mathlib.Core.Bool.{true}
 use native.Mathlib.Omega.{arith}
 use lib.ListN.{length}
+use Rattle.block.specs.Bytes.{AreBytes}
 use Rattle.entries.specs.declared.Format.{Format}
 use Rattle.card.specs.Listing.{hasRoom}
 use Rattle.layout.specs.Bounds.{mostEntries}
@@ -20,6 +21,14 @@ enum-known-f c = search needs
 
 has-room-requires : tie.Need-has-room-requires
 has-room-requires c κs = search needs
+
+-- once the card is read: its numbers are bytes
+module _ (c : tie.After-admit) where
+  abbrev lent : tie.After-shared-slice-known
+  lent = c .before .before .before .before
+
+  of-bytes : AreBytes (lent .before .args .card .now)
+  of-bytes i = lent .shared-slice-known .given i .fits
 
 -- ---- past the admission and the test of the room
 
@@ -61,16 +70,18 @@ returns : tie.Need-returns
 returns c =
     let filled = c .before .before .before .before .before .before in
     let at = filled .before .before .before .before in
-    listed-filled _ _ _ _ _ (has at) (room at) (filled .fill .ensures .0) (filled .fill .ensures .1 .0) (filled .fill .ensures .1 .1)
+    listed-filled _ _ _ _ _ (of-bytes (admitted at .before .before)) (has at) (room at) (filled .fill .ensures .0) (filled .fill .ensures .1 .0) (filled .fill .ensures .1 .1)
 
 returns-2 : tie.Need-returns-2
 returns-2 c =
     let admitted = c .before .before .before in
     let has = told-admitted _ _ (admitted .before .before .admit .ensures) (admitted .f .given .1) in
-    listed-no-room _ _ _ _ _ has (sym (c .before .has-room .ensures) ∙ c .if1 .left)
+    listed-no-room _ _ _ _ _ (of-bytes (admitted .before .before)) has (sym (c .before .has-room .ensures) ∙ c .if1 .left)
 
 returns-3 : tie.Need-returns-3
-returns-3 c = listed-refused _ _ _ _ _ (told-not-admitted _ _ (c .before .before .before .admit .ensures) (c .before .r .given .1))
+returns-3 c =
+    let answered = c .before .before .before in
+    listed-refused _ _ _ _ _ (of-bytes answered) (told-not-admitted _ _ (answered .admit .ensures) (c .before .r .given .1))
 
 pub admit-into-spec : {M : Type 1} → statement M
 admit-into-spec =

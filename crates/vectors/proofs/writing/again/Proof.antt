@@ -1,7 +1,7 @@
--- `vectors::writing::again` is safe: the output is a part of its array. Assumes nothing.
-use borrow.Author.Needs.{needs}
+-- `vectors::writing::again` meets its contract. Assumes nothing.
 use native.Mathlib.Omega.{arith}
 use lib.ListN.{length-take}
+use borrow.Author.Needs.{needs}
 use Rattle.vectors.proofs.writing.again.Statement.{statement}
 use Rattle.vectors.proofs.writing.again.Tie as tie
 

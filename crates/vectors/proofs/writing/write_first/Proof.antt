@@ -1,12 +1,9 @@
--- `vectors::writing::write_first` is safe: what is written is a part of each list. Assumes nothing.
-use borrow.Author.Needs.{needs}
+-- `vectors::writing::write_first` meets its contract. Assumes nothing.
 use native.Mathlib.Omega.{arith}
 use lib.ListN.{length-take}
+use borrow.Author.Needs.{needs}
 use Rattle.vectors.proofs.writing.write_first.Statement.{statement}
 use Rattle.vectors.proofs.writing.write_first.Tie as tie
-
-returns : tie.Need-returns
-returns c = search needs
 
 slice-aggregate-write : tie.Need-slice-aggregate-write
 slice-aggregate-write c = simp length-take (omega arith)
@@ -23,17 +20,16 @@ write-requires c κs = search needs
 same-length : tie.Need-same-length
 same-length c = search needs
 
-returns-2 : tie.Need-returns-2
-returns-2 c = search needs
+returns : tie.Need-returns
+returns c = search needs
 
 pub write-first-spec : {M : Type 1} → statement M
 write-first-spec =
     tie.close
     (tie.spec
-    returns
     slice-aggregate-write
     slice-aggregate-write-2
     slice-aggregate-write-3
     write-requires
     same-length
-    returns-2)
+    returns)
