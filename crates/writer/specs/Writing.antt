@@ -1,12 +1,12 @@
 -- Writing a card (01, "What can come back"): "Writing takes kind, l and three lists (words, place one, place two) and tests 5, 6, 13, 7,
 -- entries in turn (10, 11), then 12; it touches only the card's bytes of the output." `limit` is the most entries that a card may have.
---   formatFor kind l words            == the format of a card of these words: it has as many entries as there are words
---   slotFrom words ones twos e        == entry e of the lists, as it is stored
---   sameLength words ones twos        == the lists have one length
---   listsTests limit kind l words ones twos    == the tests of the lists, in their order
---   writing limit kind l words ones twos room    == what the writer answers, where the output has `room` bytes
---   outputAfter card before answer    == the output after the answer, where it was `before`
---   Writes …                          == the answer, and every byte of the output afterwards
+--   formatFor kind l words                        == the format of a card of these words: it has as many entries as there are words
+--   slotFrom words ones twos e                    == entry e of the lists, as it is stored
+--   sameLength words ones twos                    == the lists have one length
+--   listsTests limit kind l words ones twos       == the tests of the lists, in their order
+--   writing limit kind l words ones twos room     == what the writer answers, where the output has `room` bytes
+--   outputAfter card before answer                == the output after the answer, where it was `before`
+--   Writes limit kind l words ones twos before r after    == the answer r, and every byte of the output afterwards
 -- An entry's fault is the reader's own, `entryTests`. Assumes nothing.
 use mathlib.Core.Path.{_≡_}
 use Prim.Native.Nat.{ℕ}
@@ -32,7 +32,7 @@ formatFor kind l words = record { kind = kind; l = l; m = length words }
 unfoldable pub slotFrom : List ℕ → List ℕ → List ℕ → ℕ → Slot
 slotFrom words ones twos e = record { word = getD words e 0; one = getD ones e 0; two = getD twos e 0 }
 
--- the reverse of "the writer's three lists differ in length"
+-- not "the writer's three lists differ in length"
 abbrev pub sameLength : List ℕ → List ℕ → List ℕ → Bool
 sameLength words ones twos = eqb (length words) (length ones) && eqb (length words) (length twos)
 
@@ -56,7 +56,7 @@ abbrev pub saysWritten : Written → Answer ℕ
 saysWritten (Card n) = given n
 saysWritten (Refused r) = refused (r .number) (r .place)
 
--- "the card standing at the start of the output"; later bytes are untouched, and on a refusal every byte is
+-- "the card standing at the start of the output", its later bytes as they were; on a refusal all of it is as it was
 abbrev pub outputAfter : List ℕ → List ℕ → Answer ℕ → List ℕ
 outputAfter card before (given n) = card ++ drop n before
 outputAfter card before (refused n p) = before
