@@ -13,7 +13,6 @@ use Rattle.answers.specs.Answer.{given, refused, sound, first}
 use Rattle.answers.specs.Row.{inTurn}
 use Rattle.answers.proofs.Laws.{first-pass, first-fail, first-last, first-passed, first-holds, first-refused, first-both, first-value, turns-hold, turns-held}
 use Rattle.answers.proofs.Tests.{both}
-use Rattle.entries.specs.declared.Format.{Format}
 use Rattle.entries.specs.Fault.{leastLength, mostLength, entryTests}
 use Rattle.layout.specs.Bounds.{leastEntries, isWithin, isKind}
 use Rattle.layout.specs.Layout.{sizeOf}
@@ -110,10 +109,18 @@ module _ {limit kind l : ℕ} {words ones twos : List ℕ} where
 
 -- ---- the three outcomes
 
-module _ (limit kind l : ℕ) (words ones twos before : List ℕ) where
-  abbrev format : Format
-  format = formatFor kind l words
+-- what the writer answers of lists that are accepted
+module _ {limit kind l : ℕ} {words ones twos : List ℕ} (room : ℕ) (has : Accepted limit kind l words ones twos) where
+  room-refused : room < sizeOf (length words) → writing limit kind l words ones twos room ≡ refused Room 0
+  unfolding writing
+  room-refused h = first-holds _ _ (listsTests limit kind l words ones twos) (accepted-lists has) ∙ first-fail _ _ _ _ _ (lt-leb _ _ h)
 
+  card-given : sizeOf (length words) ≤ room → writing limit kind l words ones twos room ≡ given (sizeOf (length words))
+  unfolding writing
+  card-given h = first-holds _ _ (listsTests limit kind l words ones twos) (accepted-lists has) ∙ first-last _ _ _ _ (le-leb _ _ h)
+
+-- and what it leaves in the output
+module _ {limit kind l : ℕ} {words ones twos before : List ℕ} where
   -- nothing is written where the answer is a refusal
   untouched : {n : Refusal} → writing limit kind l words ones twos (length before) ≡ refused (n .number) (n .place)
       → Writes limit kind l words ones twos before (Refused n) before
@@ -124,25 +131,17 @@ module _ (limit kind l : ℕ) (words ones twos before : List ℕ) where
   unfolding writing
   lists-refused e = untouched (first-refused _ _ (listsTests limit kind l words ones twos) e)
 
-  module _ (accepted : first (listsTests limit kind l words ones twos) sound ≡ given sound) where
-    room-refused : length before < sizeOf (length words) → writing limit kind l words ones twos (length before) ≡ refused Room 0
-    unfolding writing
-    room-refused h = first-holds _ _ (listsTests limit kind l words ones twos) accepted ∙ first-fail _ _ _ _ _ (lt-leb _ _ h)
-
+  module _ (has : Accepted limit kind l words ones twos) where
     pub no-room : length before < sizeOf (length words)
         → Writes limit kind l words ones twos before (Refused (record { number = Room; place = 0 })) before
-    no-room h = untouched (room-refused h)
-
-    pub card-given : sizeOf (length words) ≤ length before
-        → writing limit kind l words ones twos (length before) ≡ given (sizeOf (length words))
-    unfolding writing
-    card-given h = first-holds _ _ (listsTests limit kind l words ones twos) accepted ∙ first-last _ _ _ _ (le-leb _ _ h)
+    no-room h = untouched (room-refused (length before) has h)
 
     pub card-written : {n : ℕ} {after : List ℕ} → n ≡ sizeOf (length words) → n ≤ length before
-        → after ≡ cardOf format (slotFrom words ones twos) ++ drop n before
+        → after ≡ cardOf (formatFor kind l words) (slotFrom words ones twos) ++ drop n before
         → Writes limit kind l words ones twos before (Card n) after
     card-written {n} {after} size h e =
-        let says : writing limit kind l words ones twos (length before) ≡ given n = card-given (omega arith) ∙ ap given (sym size) in
+        let says : writing limit kind l words ones twos (length before) ≡ given n =
+        card-given (length before) has (omega arith) ∙ ap given (sym size) in
         record { answer = sym says; bytes = rw says e }
 
 -- ---- what an answer says
@@ -175,10 +174,10 @@ module _ {limit kind l : ℕ} {words ones twos before after : List ℕ} {r : Wri
       → (saysWritten r ≡ given (sizeOf (length words)))
       × (after ≡ cardOf (formatFor kind l words) (slotFrom words ones twos) ++ drop (sizeOf (length words)) before)
   wrote-card h =
-      let said = card-given limit kind l words ones twos before (accepted-lists has) h in
+      let said = card-given (length before) has h in
       (did .answer ∙ said, rw said at (did .bytes))
 
   pub wrote-nothing : length before < sizeOf (length words) → (saysWritten r ≡ refused Room 0) × (after ≡ before)
   wrote-nothing h =
-      let said = room-refused limit kind l words ones twos before (accepted-lists has) h in
+      let said = room-refused (length before) has h in
       (did .answer ∙ said, rw said at (did .bytes))

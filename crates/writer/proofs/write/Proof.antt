@@ -1,16 +1,14 @@
 -- `writer::write` meets its contract: the lists first, then the room, then the card. Assumes nothing.
 use borrow.Author.Needs.{needs}
-use mathlib.Core.Path.{_≡_, ap}
+use mathlib.Core.Path.{ap}
 use mathlib.Core.List.{List, _++_}
 use Prim.Native.Nat.{ℕ}
 use native.Mathlib.Omega.{arith}
 use lib.ListN.{length, drop, length-take}
-use Rattle.answers.specs.Answer.{given, first, sound}
 use Rattle.answers.proofs.Laws.{told-holds, told-refused}
 use Rattle.entries.specs.Fault.{leastLength, mostLength}
 use Rattle.layout.specs.Bounds.{leastEntries, mostEntries}
 use Rattle.layout.proofs.Laws.{within-both, kind-below}
-use Rattle.writer.specs.Writing.{listsTests}
 use Rattle.writer.proofs.WritingLaws.{Accepted, lists-accepted, lists-refused, no-room, card-written}
 use Rattle.writer.proofs.write.Statement.{statement}
 use Rattle.writer.proofs.write.Tie as tie
@@ -24,12 +22,8 @@ module _ (c : tie.After-enum-told) where
   abbrev words : List ℕ
   words = start .args .words .now
 
-  accepted : first (listsTests mostEntries (start .args .kind) (start .args .l) words (start .args .ones .now) (start .args .twos .now)) sound
-      ≡ given sound
-  accepted = told-holds (c .before .before .lists-hold .ensures) (c .enum-told .given .1)
-
   has : Accepted mostEntries (start .args .kind) (start .args .l) words (start .args .ones .now) (start .args .twos .now)
-  has = lists-accepted accepted
+  has = lists-accepted (told-holds (c .before .before .lists-hold .ensures) (c .enum-told .given .1))
 
 -- ---- the needs
 
@@ -40,7 +34,7 @@ enum-known-r : tie.Need-enum-known-r
 enum-known-r c = search needs
 
 returns : tie.Need-returns
-returns c = lists-refused _ _ _ _ _ _ _ (told-refused (c .before .before .before .lists-hold .ensures) (c .before .r .given .1))
+returns c = lists-refused (told-refused (c .before .before .before .lists-hold .ensures) (c .before .r .given .1))
 
 enum-told : tie.Need-enum-told
 enum-told c = search needs
@@ -51,7 +45,7 @@ size-of-requires c κs = within-both leastEntries mostEntries (length (words c))
 returns-2 : tie.Need-returns-2
 returns-2 c =
     let past = c .before .before in
-    no-room _ _ _ _ _ _ _ (accepted past) (omega (arith, c .if1 .taken, c .before .size-of .ensures))
+    no-room (has past) (omega (arith, c .if1 .taken, c .before .size-of .ensures))
 
 slice-relend-prefix-put-card : tie.Need-slice-relend-prefix-put-card
 slice-relend-prefix-put-card c = search needs
@@ -91,7 +85,7 @@ returns-3 c =
     let past = sized .before in
     let size = sized .size-of .result in
     let at = start past in
-    card-written _ _ _ _ _ _ _ (accepted past) (sized .size-of .ensures) (omega (arith, room .if1 .left))
+    card-written (has past) (sized .size-of .ensures) (omega (arith, room .if1 .left))
     (ap (λ (xs : List ℕ). xs ++ drop size (at .args .out .now)) (put .put-card .ensures))
 
 pub write-spec : {M : Type 1} → statement M
