@@ -3,11 +3,11 @@ use mathlib.Core.Path.{_≡_, refl, sym, ap, _∙_}
 use mathlib.Core.List.{List}
 use Prim.Native.Nat.{ℕ, _+_, _*_, _/_, _≤_, _<_}
 use lib.ListN.{length}
-use borrow.Author.Tests.{lt-ltb, le-ltb, eqb-true}
+use borrow.Author.Tests.{lt-ltb, le-ltb}
 use Rattle.answers.specs.declared.Refusal.{Refusal}
 use Rattle.answers.specs.Numbers.{Absent}
 use Rattle.answers.specs.Answer.{given, refused, sound, first}
-use Rattle.answers.proofs.Laws.{first-fail, first-last, first-passed, first-holds, first-refused, first-both, first-value, first-given-any, first-refused-any}
+use Rattle.answers.proofs.Laws.{first-fail, first-last, first-holds, first-refused, first-both, first-value, first-given-any, first-refused-any}
 use Rattle.block.specs.Block.{blockBytes}
 use Rattle.entries.specs.declared.Format.{Format}
 use Rattle.card.specs.declared.Admitted.{Admitted}
@@ -16,7 +16,7 @@ use Rattle.layout.specs.Layout.{toldBy, perBlock, sizeOf, entryAt}
 use Rattle.card.specs.Reading.{headTests, readingOrder}
 use Rattle.card.specs.Fetching.{admission, saysAdmitted, entryFetch, more, end, nextAt, stepping}
 use Rattle.layout.proofs.Laws.{entry-there}
-use Rattle.card.proofs.ReadingLaws.{HeadHolds, head-has}
+use Rattle.card.proofs.ReadingLaws.{HeadHolds, head-has, size-had}
 
 -- ---- what a card that is admitted has
 
@@ -30,8 +30,8 @@ module _ {limit : ℕ} {card : List ℕ} where
   pub order-admits : first (readingOrder limit card) sound ≡ given sound → Admits limit card (toldBy card)
   unfolding readingOrder
   order-admits e =
-      let parts = first-both _ _ (headTests limit card) _ e in
-      record { told = refl; order = e; head = head-has limit card (parts .0); size = eqb-true _ _ (first-passed _ _ _ _ _ _ (parts .1) .0) }
+      let head = first-both _ _ (headTests limit card) _ e .0 in
+      record { told = refl; order = e; head = head-has limit card head; size = size-had limit card e }
 
 module _ (limit : ℕ) (card : List ℕ) where
   pub admission-given : first (readingOrder limit card) sound ≡ given sound → admission limit card ≡ given (toldBy card)

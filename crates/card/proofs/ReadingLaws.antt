@@ -6,7 +6,7 @@ use mathlib.Core.List.{List, [], _∷_}
 use Prim.Native.Nat.{ℕ, _+_, _*_, _≤_, _<_}
 use native.Mathlib.Omega.{arith}
 use lib.ListN.{length}
-use borrow.Author.Tests.{le-leb, lt-leb, leb-true, eq-eqb, ne-eqb}
+use borrow.Author.Tests.{le-leb, lt-leb, leb-true, eqb-true, eq-eqb, ne-eqb}
 use Rattle.answers.specs.Numbers.{Short, Form, Kind, Length, Count, Spare, Size}
 use Rattle.answers.specs.Answer.{given, refused, sound, test, first}
 use Rattle.answers.specs.Row.{inTurn}
@@ -131,6 +131,24 @@ module _ (limit : ℕ) (card : List ℕ) where
 
 -- ---- what a head, and what a card that is admitted, has
 
+-- fields that hold
+pub record FieldsHold (limit : ℕ) (b : List ℕ) : Type 0 where
+  pub form : formOf b ≡ theForm
+  pub a-kind : isKind (formatOf b .kind) ≡ true
+  pub letters : isWithin leastLength mostLength (formatOf b .l) ≡ true
+  pub count : isWithin leastEntries limit (formatOf b .m) ≡ true
+  pub spare : headSpare b ≡ true
+
+pub fields-had : (limit : ℕ) (b : List ℕ) → first (fieldTests limit b) sound ≡ given sound → FieldsHold limit b
+unfolding fieldTests
+fields-had limit b e =
+    let form = first-passed _ _ _ _ _ _ e in
+    let a-kind = first-passed _ _ _ _ _ _ (form .1) in
+    let letters = first-passed _ _ _ _ _ _ (a-kind .1) in
+    let count = first-passed _ _ _ _ _ _ (letters .1) in
+    let spare = first-passed _ _ _ _ _ _ (count .1) in
+    record { form = eqb-true _ _ (form .0); a-kind = a-kind .0; letters = letters .0; count = count .0; spare = spare .0 }
+
 pub record HeadHolds (limit : ℕ) (card : List ℕ) : Type 0 where
   pub there : blockBytes ≤ length card
   pub letters : toldBy card .l ≤ mostLength
@@ -138,18 +156,19 @@ pub record HeadHolds (limit : ℕ) (card : List ℕ) : Type 0 where
   pub most : toldBy card .m ≤ limit
 
 pub head-has : (limit : ℕ) (card : List ℕ) → first (headTests limit card) sound ≡ given sound → HeadHolds limit card
-unfolding headTests fieldTests
+unfolding headTests
 head-has limit card e =
     let short = first-passed _ _ _ _ _ _ e in
-    let fields = first-both _ _ (blockTests (blockAt card 0) 0) _ (short .1) .1 in
-    let form = first-passed _ _ _ _ _ _ fields in
-    let kind = first-passed _ _ _ _ _ _ (form .1) in
-    let letters = first-passed _ _ _ _ _ _ (kind .1) in
-    let count = first-passed _ _ _ _ _ _ (letters .1) in
-    let m-in = within-both leastEntries limit _ (count .0) in
+    let fields = fields-had limit (blockAt card 0) (first-both _ _ (blockTests (blockAt card 0) 0) _ (short .1) .1) in
+    let m-in = within-both leastEntries limit _ (fields .count) in
     record {
       there = leb-true _ _ (short .0);
-      letters = within-both leastLength mostLength _ (letters .0) .1;
+      letters = within-both leastLength mostLength _ (fields .letters) .1;
       least = m-in .0;
       most = m-in .1;
     }
+
+-- the size of a card that holds
+pub size-had : (limit : ℕ) (card : List ℕ) → first (readingOrder limit card) sound ≡ given sound → length card ≡ sizeOf (toldBy card .m)
+unfolding readingOrder
+size-had limit card e = eqb-true _ _ (first-passed _ _ _ _ _ _ (first-both _ _ (headTests limit card) _ e .1) .0)

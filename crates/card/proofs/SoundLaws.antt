@@ -6,17 +6,17 @@ use mathlib.Core.List.{List, _++_}
 use Prim.Native.Nat.{ℕ, zero, suc, _+_, _-_, _/_, _%_, _≤_, _<_}
 use native.Mathlib.Omega.{arith}
 use lib.ListN.{length}
-use borrow.Author.Tests.{le-leb, eq-eqb, eqb-true}
+use borrow.Author.Tests.{le-leb, eq-eqb}
 use Rattle.answers.specs.Answer.{given, sound, first}
 use Rattle.answers.proofs.Laws.{first-pass, first-last, first-passed, first-holds, first-both, turns-hold, turns-held}
 use Rattle.block.specs.Block.{blockBytes, blockAt, blockTests}
 use Rattle.entries.specs.Fault.{leastLength, mostLength, entryTests}
 use Rattle.layout.specs.Bounds.{leastEntries, isWithin, isKind}
-use Rattle.layout.specs.Layout.{toldBy, perBlock, entryBlocks, sizeOf, entriesBefore, entriesIn, slotOf, slotsSpare}
+use Rattle.layout.specs.Layout.{toldBy, perBlock, entryBlocks, entriesBefore, entriesIn, slotOf, slotsSpare}
 use Rattle.layout.proofs.LaidLaws.{Laid}
 use Rattle.layout.proofs.AgainLaws.{slot-in-block}
 use Rattle.card.specs.Reading.{fieldTests, headTests, slotsTests, laterTests, readingOrder}
-use Rattle.card.proofs.ReadingLaws.{fields-sound}
+use Rattle.card.proofs.ReadingLaws.{fields-sound, fields-had, size-had}
 
 pub record Reads (limit : ℕ) (card : List ℕ) : Type 0 where
   pub laid : Laid card
@@ -68,11 +68,7 @@ module _ (limit : ℕ) (card : List ℕ) where
     abbrev m : ℕ
     m = toldBy card .m
 
-    -- 1 and block 0; then 9; then the later blocks
-    size-order : length card ≡ sizeOf m
-    unfolding readingOrder
-    size-order = eqb-true _ _ (first-passed _ _ _ _ _ _ (first-both _ _ (headTests limit card) _ order .1) .0)
-
+    -- block 0, and the later blocks
     head-order : first (blockTests (blockAt card 0) 0 ++ fieldTests limit (blockAt card 0)) sound ≡ given sound
     unfolding readingOrder headTests
     head-order = first-passed _ _ _ _ _ _ (first-both _ _ (headTests limit card) _ order .0) .1
@@ -115,24 +111,18 @@ module _ (limit : ℕ) (card : List ℕ) where
     blocks-order (suc k) g = block-order (suc k) (omega arith) g
 
     pub holds-reads : Reads limit card
-    unfolding fieldTests
     holds-reads =
-        let fields = first-both _ _ (blockTests (blockAt card 0) 0) _ head-order .1 in
-        let form = first-passed _ _ _ _ _ _ fields in
-        let kind = first-passed _ _ _ _ _ _ (form .1) in
-        let letters = first-passed _ _ _ _ _ _ (kind .1) in
-        let count = first-passed _ _ _ _ _ _ (letters .1) in
-        let spare = first-passed _ _ _ _ _ _ (count .1) in
+        let fields = fields-had limit (blockAt card 0) (first-both _ _ (blockTests (blockAt card 0) 0) _ head-order .1) in
         record {
           laid = record {
-            size = size-order;
+            size = size-had limit card order;
             blocks = blocks-order;
-            form = eqb-true _ _ (form .0);
-            head-spare = spare .0;
+            form = fields .form;
+            head-spare = fields .spare;
             later-spare = λ k h g. slots-order k h g .1;
           };
-          kind = kind .0;
-          letters = letters .0;
-          count = count .0;
+          kind = fields .a-kind;
+          letters = fields .letters;
+          count = fields .count;
           entries = entry-order;
         }

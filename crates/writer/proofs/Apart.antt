@@ -1,28 +1,24 @@
 -- Different lists give different cards: two cards of lists that are each of one length are the same only where kind, l and the lists are.
 -- Assumes nothing.
 use mathlib.Core.Path.{_≡_, refl, sym, ap, _∙_}
+use mathlib.Core.Bool.{true}
 use mathlib.Core.List.{List}
 use Prim.Native.Nat.{ℕ}
-use lib.ListN.{length}
 use Rattle.answers.specs.Row.{row}
 use Rattle.entries.specs.declared.Format.{Format}
 use Rattle.entries.specs.declared.Slot.{Slot}
 use Rattle.layout.specs.Layout.{toldBy, slotOf}
 use Rattle.layout.specs.Card.{cardOf}
 use Rattle.layout.proofs.LaidLaws.{card-told}
-use Rattle.writer.specs.Writing.{formatFor, slotFrom}
+use Rattle.writer.specs.Writing.{formatFor, slotFrom, sameLength}
+use Rattle.writer.proofs.WritingLaws.{lengths-same}
 use Rattle.writer.proofs.ReadBackLaws.{written-numbers}
-
--- three lists of one length
-pub record Even (words ones twos : List ℕ) : Type 0 where
-  pub as-ones : length ones ≡ length words
-  pub as-twos : length twos ≡ length words
 
 -- what a card says, by its bytes alone
 abbrev numbersOf : List ℕ → (Slot → ℕ) → List ℕ
 numbersOf card numberOf = row (λ e. numberOf (slotOf card e)) 0 (toldBy card .m)
 
-module _ (kind l : ℕ) {words ones twos : List ℕ} (even : Even words ones twos) where
+module _ (kind l : ℕ) (words ones twos : List ℕ) (even : sameLength words ones twos ≡ true) where
   abbrev card : List ℕ
   card = cardOf (formatFor kind l words) (slotFrom words ones twos)
 
@@ -34,17 +30,18 @@ module _ (kind l : ℕ) {words ones twos : List ℕ} (even : Even words ones two
   said =
       let numbers = written-numbers kind l words ones twos in (
         rw told (numbers (λ s. s .word) words refl (λ e. refl)),
-        rw told (numbers (λ s. s .one) ones (even .as-ones) (λ e. refl)),
-        rw told (numbers (λ s. s .two) twos (even .as-twos) (λ e. refl)),
+        rw told (numbers (λ s. s .one) ones (sym (lengths-same words ones twos even .0)) (λ e. refl)),
+        rw told (numbers (λ s. s .two) twos (sym (lengths-same words ones twos even .1)) (λ e. refl)),
       )
 
-pub cards-apart : (kind l kind′ l′ : ℕ) {words ones twos words′ ones′ twos′ : List ℕ} → Even words ones twos → Even words′ ones′ twos′
+pub cards-apart : (kind l kind′ l′ : ℕ) (words ones twos words′ ones′ twos′ : List ℕ)
+    → sameLength words ones twos ≡ true → sameLength words′ ones′ twos′ ≡ true
     → cardOf (formatFor kind l words) (slotFrom words ones twos) ≡ cardOf (formatFor kind′ l′ words′) (slotFrom words′ ones′ twos′)
     → (kind ≡ kind′) × (l ≡ l′) × (words ≡ words′) × (ones ≡ ones′) × (twos ≡ twos′)
-cards-apart kind l kind′ l′ even even′ same =
-    let formats = sym (told kind l even) ∙ ap toldBy same ∙ told kind′ l′ even′ in
-    let mine = said kind l even in
-    let theirs = said kind′ l′ even′ in (
+cards-apart kind l kind′ l′ words ones twos words′ ones′ twos′ even even′ same =
+    let formats = sym (told kind l words ones twos even) ∙ ap toldBy same ∙ told kind′ l′ words′ ones′ twos′ even′ in
+    let mine = said kind l words ones twos even in
+    let theirs = said kind′ l′ words′ ones′ twos′ even′ in (
       ap (λ (f : Format). f .kind) formats,
       ap (λ (f : Format). f .l) formats,
       sym (mine .0) ∙ ap (λ (c : List ℕ). numbersOf c (λ s. s .word)) same ∙ theirs .0,

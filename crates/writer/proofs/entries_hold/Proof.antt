@@ -3,7 +3,7 @@
 use borrow.Author.Needs.{needs}
 use mathlib.Core.Path.{_≡_, sym, _∙_}
 use mathlib.Core.List.{List}
-use Prim.Native.Nat.{ℕ, _-_, _≤_}
+use Prim.Native.Nat.{ℕ, _-_}
 use native.Mathlib.Omega.{arith}
 use Rattle.answers.specs.Answer.{Test, first, sound, saysHeld}
 use Rattle.answers.specs.Row.{inTurn}
@@ -20,8 +20,7 @@ listedTests f words ones twos e = entryTests f e (slotFrom words ones twos e)
 
 abbrev Inv-loop : tie.InvT-loop
 Inv-loop f words ones twos e₀ e =
-    (e ≤ f .m)
-    × (first (inTurn (listedTests f words ones twos) e (f .m - e)) sound ≡ first (inTurn (listedTests f words ones twos) 0 (f .m)) sound)
+    first (inTurn (listedTests f words ones twos) e (f .m - e)) sound ≡ first (inTurn (listedTests f words ones twos) 0 (f .m)) sound
 
 abbrev μ-loop : tie.MeasureT-loop
 μ-loop f words ones twos e₀ e = f .m - e
@@ -30,7 +29,7 @@ loop-holds : tie.Need-loop-holds Inv-loop μ-loop
 loop-holds c =
     let m : ℕ = c .before .before .before .args .f .m in
     let whole : m - 0 ≡ m = omega arith in
-    (search needs, rw whole)
+    rw whole
 
 slot-from-requires : tie.Need-slot-from-requires Inv-loop μ-loop
 slot-from-requires c κs = omega (arith, c .if1 .taken)
@@ -63,7 +62,7 @@ returns : tie.Need-returns Inv-loop μ-loop
 returns c =
     let asked = c .before .before .before in
     sym (turn-refused _ _ _ sound (turn asked .if1 .taken) (told-refused (said asked) (c .before .r .given .1)))
-    ∙ at-loop asked .loop .inv .1
+    ∙ at-loop asked .loop .inv
 
 enum-told : tie.Need-enum-told Inv-loop μ-loop
 enum-told c = search needs
@@ -76,13 +75,11 @@ loop-less c = search needs
 
 loop-again : tie.Need-loop-again Inv-loop μ-loop
 loop-again c =
-    let asked = c .before .before in (
-      search needs,
-      turn-holds _ _ _ sound (turn asked .if1 .taken) (told-holds (said asked) (c .enum-told .given .1)) ∙ at-loop asked .loop .inv .1,
-    )
+    let asked = c .before .before in
+    turn-holds _ _ _ sound (turn asked .if1 .taken) (told-holds (said asked) (c .enum-told .given .1)) ∙ at-loop asked .loop .inv
 
 returns-2 : tie.Need-returns-2 Inv-loop μ-loop
-returns-2 c = sym (turns-end _ _ _ sound (c .if1 .left)) ∙ c .before .before .loop .inv .1
+returns-2 c = sym (turns-end _ _ _ sound (c .if1 .left)) ∙ c .before .before .loop .inv
 
 pub entries-hold-spec : {M : Type 1} → statement M
 entries-hold-spec =
