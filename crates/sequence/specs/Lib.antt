@@ -1,0 +1,6 @@
+-- `Lists` is what the others need of lists, `Arrangement` what an arrangement is, `Build` the sequence it spells, `Verdict` what a verdict
+-- says of all builds, and demand 3 of two cards.
+pub mod Lists
+pub mod Arrangement
+pub mod Build
+pub mod Verdict
