@@ -1,6 +1,21 @@
--- `ListLaws` has the laws of lists that this crate's proofs and the crates above cite, `OrderLaws` those of the alphabetical order,
--- `LetterLaws` those of a word's letters and of overlapping, `SpellingLaws` those of the sequence that a list of words spells.
+-- The laws of this crate's definitions, cited by the crates above.
+-- `ListLaws`: members of lists, taking one out, rising order, pairing off.
+-- `OrderLaws`: the alphabetical order.
+-- `LetterLaws`: the letters of a word, and that `overlaps` is the scope's sentence.
+-- `SpellingLaws`: the sequence that a list of words spells, its length, its words and its order.
+-- `BuildLaws`: the length of a build, and its words.
+-- `VerdictLaws`: true verdicts: there is one, and where more sequences fit it is no later.
+-- `WiderLaws`: a build of a card is one of each card that allows more.
+-- `Enumerator`: all arrangements of a list of entries, by computation.
+-- `VerdictOf`: the verdict on a list of sequences, and on all arrangements, by computation.
+-- `Tables`: the tables of 01 from the definitions, through one statement over the list.
 pub mod ListLaws
 pub mod OrderLaws
 pub mod LetterLaws
 pub mod SpellingLaws
+pub mod BuildLaws
+pub mod VerdictLaws
+pub mod WiderLaws
+pub mod Enumerator
+pub mod VerdictOf
+pub mod Tables

@@ -19,6 +19,17 @@ before-asym (a ∷ s) (d ∷ t) (inr h) (inr g) = before-asym s t (h .1) (g .1)
 pub before-irr : (s : List ℕ) → Before s s → ⊥
 before-irr s b = before-asym s s b b
 
+pub before-trans : (s t u : List ℕ) → Before s t → Before t u → Before s u
+before-trans [] [] u b c = absurd b
+before-trans [] (d ∷ t) [] b c = absurd c
+before-trans [] (d ∷ t) (e ∷ u) b c = tt
+before-trans (a ∷ s) [] u b c = absurd b
+before-trans (a ∷ s) (d ∷ t) [] b c = absurd c
+before-trans (a ∷ s) (d ∷ t) (e ∷ u) (inl h) (inl g) = inl (omega arith)
+before-trans (a ∷ s) (d ∷ t) (e ∷ u) (inl h) (inr g) = inl (omega arith)
+before-trans (a ∷ s) (d ∷ t) (e ∷ u) (inr h) (inl g) = inl (omega arith)
+before-trans (a ∷ s) (d ∷ t) (e ∷ u) (inr h) (inr g) = inr (omega arith, before-trans s t u (h .1) (g .1))
+
 -- sequences of one length compare as whatever goes on from them
 pub before-append : (s t u v : List ℕ) → length s ≡ length t → Before s t → Before (s ++ u) (t ++ v)
 before-append [] [] u v e b = absurd b

@@ -1,6 +1,7 @@
 -- `Lists` is what the others need of lists, `Arrangement` what an arrangement is, `Build` the sequence it spells, `Verdict` what a verdict
--- says of all builds, and demand 3 of two cards.
+-- says of all builds, and demand 3 of two cards, `Tables` the small tables of 01.
 pub mod Lists
 pub mod Arrangement
 pub mod Build
 pub mod Verdict
+pub mod Tables

@@ -1,0 +1,51 @@
+-- Laws of arrangements and builds: an arrangement has all the entries, its words are a chain, a build has m+l−1 letters, and the l letters
+-- from each place on are those of a word. Assumes nothing.
+use mathlib.Core.Path.{_≡_, refl}
+use mathlib.Core.Logic.{⊎-elim}
+use mathlib.Core.List.{List}
+use Prim.Native.Nat.{ℕ, _+_, _^_, _<_}
+use native.Mathlib.Omega.{arith}
+use lib.ListN.{length, getD, take, drop, length-map}
+use Rattle.entries.specs.declared.Entry.{Entry}
+use Rattle.sequence.specs.Lists.{In, Reordered, empty, next}
+use Rattle.sequence.specs.Arrangement.{Arrangement, words}
+use Rattle.sequence.specs.Build.{lettersOf, Build}
+use Rattle.sequence.proofs.ListLaws.{in-cons, in-cast, in-left, in-map, taken-is-in, length-taken}
+use Rattle.sequence.proofs.SpellingLaws.{Chained, standing-chain, spell-length, spell-window}
+
+-- ---- the same members in another order
+
+module _ {A : Type 0} where
+  pub reordered-length : {all order : List A} → Reordered all order → length order ≡ length all
+  reordered-length empty = refl
+  reordered-length (next t r) = let h = reordered-length r in omega (arith, length-taken t)
+
+  pub reordered-in : {all order : List A} {x : A} → Reordered all order → In x order → In x all
+  reordered-in (next t r) h = ⊎-elim (λ e. in-cast e (taken-is-in t)) (λ g. in-left t (reordered-in r g)) (in-cons h)
+
+-- ---- arrangements
+
+pub words-length : {l : ℕ} {es order : List Entry} → Arrangement l es order → length (words order) ≡ length es
+words-length {order} a = omega (arith, length-map order (λ e. e .word), reordered-length (a .each))
+
+-- the words of an arrangement, of entries whose words have l letters
+pub arrangement-chained : {l : ℕ} {es order : List Entry} → ((e : Entry) → In e es → e .word < 4 ^ l) → Arrangement l es order
+    → Chained l (words order)
+arrangement-chained {l} {es} {order} fits a = record { chain = standing-chain (a .standing); fits = fit }
+  where
+    fit : (w : ℕ) → In w (words order) → w < 4 ^ l
+    fit w h = let u = in-map (λ e. e .word) order h in rw (u .2) (fits (u .0) (reordered-in (a .each) (u .1)))
+
+-- ---- builds
+
+module _ {l : ℕ} {es : List Entry} {s : List ℕ} (b : Build l es s) where
+  -- "A build has m+l−1 letters"
+  pub build-length : 0 < length es → length s + 1 ≡ length es + l
+  build-length h =
+      let n = words-length (b .arrangement) in
+      rw (b .spelled) (omega (arith, n, spell-length l (words (b .order)) (omega (arith, n))))
+
+  -- its l letters from the place j on are those of the word of the entry at j
+  pub build-window : 0 < l → (j : ℕ) → j < length es → take l (drop j s) ≡ lettersOf l (getD (words (b .order)) j 0)
+  build-window pos j h =
+      rw (b .spelled) (spell-window pos (standing-chain (b .arrangement .standing)) j (omega (arith, words-length (b .arrangement))))
