@@ -1,4 +1,5 @@
--- What the places of a sound entry are: each allowed place is a place of the card. Assumes nothing.
+-- What the places of a sound entry are: each allowed place is a place of the card, and a span's are those from its first to its last.
+-- Assumes nothing.
 use mathlib.Core.Path.{_≡_, refl}
 use mathlib.Core.Logic.{⊎-elim}
 use mathlib.Core.Bool.{Bool, true, false, cond, _&&_, _||_}
@@ -9,7 +10,8 @@ use borrow.Author.Tests.{ltb-true, leb-true, eqb-true}
 use Rattle.answers.proofs.Tests.{both, either}
 use Rattle.entries.specs.declared.Places.the-variants.{One, Two, Span}
 use Rattle.entries.specs.Fault.{span, widest, noPlace, isPlace, pairHolds, spanHolds, placesHold}
-use Rattle.entries.specs.Entry.{placesOf, allows}
+use Rattle.entries.specs.declared.Slot.{Slot}
+use Rattle.entries.specs.Entry.{placesOf, entryOf, allows}
 
 module _ (m one two p : ℕ) where
   span-below : spanHolds m one two ≡ true → allows (Span one two) p ≡ true → p < m
@@ -47,3 +49,8 @@ allowed-below kind m one two p = go (eqb kind span) (eqb two noPlace) refl
     go true n e h a = span-below m one two p h a
     go false true e h a = one-below m one two p h a
     go false false e h a = two-below m one two p h e a
+
+-- an entry of a span card
+pub span-entry : (s : Slot) → entryOf span s ≡ record { word = s .word; places = Span (s .one) (s .two) }
+unfolding entryOf placesOf
+span-entry s = refl

@@ -1,9 +1,11 @@
 -- How an entry is stored (01, "The card, block by block"): "word (4 bytes), place one (2), place two (2)".
 --   slotAt b j      == the slot j of the block b, from 0
 --   slotBytes s     == the bytes of the slot s
+--   slotFrom words ones twos e    == entry e of three lists, as it is stored
 -- Assumes nothing.
 use Prim.Native.Nat.{ℕ, _+_, _*_}
 use mathlib.Core.List.{List, _++_}
+use lib.ListN.{getD}
 use Rattle.block.specs.Bytes.{twoAt, fourAt, twoBytes, fourBytes}
 use Rattle.entries.specs.declared.Slot.{Slot}
 
@@ -21,3 +23,6 @@ slotAt b j =
 
 unfoldable pub slotBytes : Slot → List ℕ
 slotBytes s = fourBytes (s .word) ++ (twoBytes (s .one) ++ twoBytes (s .two))
+
+unfoldable pub slotFrom : List ℕ → List ℕ → List ℕ → ℕ → Slot
+slotFrom words ones twos e = record { word = getD words e 0; one = getD ones e 0; two = getD twos e 0 }

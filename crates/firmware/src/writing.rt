@@ -3,7 +3,8 @@ ghost use mathlib.Core.Path.{_≡_};
 ghost use lib.ListN.{length};
 ghost use Rattle.layout.specs.Bounds.{mostEntries};
 ghost use Rattle.layout.specs.Card.{cardOf};
-ghost use Rattle.writer.specs.Writing.{formatFor, slotFrom, writing, outputAfter};
+ghost use Rattle.writer.specs.Writing.{formatFor, writing, outputAfter};
+ghost use Rattle.entries.specs.Slot.{slotFrom};
 ghost use Rattle.firmware.specs.Flat.{writeAnswer};
 use writer::Written;
 

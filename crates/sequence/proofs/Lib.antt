@@ -1,5 +1,6 @@
 -- The laws of this crate's definitions, cited by the crates above.
 -- `ListLaws`: members of lists, taking one out, rising order, pairing off.
+-- `ReorderedLaws`: lists in another order, and what a map does to them.
 -- `OrderLaws`: the alphabetical order.
 -- `LetterLaws`: the letters of a word, and that `overlaps` is the scope's sentence.
 -- `SpellingLaws`: the sequence that a list of words spells, its length, its words and its order.
@@ -10,6 +11,7 @@
 -- `VerdictOf`: the verdict on a list of sequences, and on all arrangements, by computation.
 -- `Tables`: the tables of 01 from the definitions, through one statement over the list.
 pub mod ListLaws
+pub mod ReorderedLaws
 pub mod OrderLaws
 pub mod LetterLaws
 pub mod SpellingLaws

@@ -17,7 +17,8 @@ use Rattle.layout.proofs.AgainLaws.{card-again}
 use Rattle.card.specs.Fetching.{admission}
 use Rattle.card.proofs.FetchingLaws.{admission-admits}
 use Rattle.card.proofs.SoundLaws.{Reads, holds-reads}
-use Rattle.writer.specs.Writing.{formatFor, slotFrom}
+use Rattle.writer.specs.Writing.{formatFor}
+use Rattle.entries.specs.Slot.{slotFrom}
 use Rattle.writer.proofs.WritingLaws.{Accepted}
 
 module _ (limit : ℕ) (card : List ℕ) {f : Format} (admitted : admission limit card ≡ given f) where

@@ -10,7 +10,8 @@ use Rattle.entries.specs.declared.Slot.{Slot}
 use Rattle.layout.specs.Layout.{toldBy, slotOf}
 use Rattle.layout.specs.Card.{cardOf}
 use Rattle.layout.proofs.LaidLaws.{card-told}
-use Rattle.writer.specs.Writing.{formatFor, slotFrom, sameLength}
+use Rattle.writer.specs.Writing.{formatFor, sameLength}
+use Rattle.entries.specs.Slot.{slotFrom}
 use Rattle.writer.proofs.WritingLaws.{lengths-same}
 use Rattle.writer.proofs.ReadBackLaws.{written-numbers}
 

@@ -9,12 +9,12 @@ use Rattle.answers.specs.Row.{inTurn}
 use Rattle.block.specs.Bytes.{twoBytes, fourBytes}
 use Rattle.block.specs.Check.{sumsOf}
 use Rattle.block.specs.Sealing.{checked, sealed}
-use Rattle.entries.specs.Slot.{slotBytes}
+use Rattle.entries.specs.Slot.{slotBytes, slotFrom}
 use Rattle.entries.specs.Fault.{pair, span, noPlace, pairHolds, spanHolds, placesHold, entryTests}
 use Rattle.layout.specs.Bounds.{mostEntries}
 use Rattle.layout.specs.Card.{headBytes, slotsBytes, ownBytes, blocksOf, cardOf}
 use Rattle.card.proofs.Examples.{headOf, s1}
-use Rattle.writer.specs.Writing.{formatFor, slotFrom, listsTests, writing}
+use Rattle.writer.specs.Writing.{formatFor, listsTests, writing}
 
 -- S1: AC[0,2] CA[1,3] AG[0,2] GA[1,3]
 pub s1-written :

@@ -17,7 +17,8 @@ use Rattle.layout.proofs.CardLaws.{card-slot}
 use Rattle.layout.proofs.LaidLaws.{card-told, card-laid}
 use Rattle.card.specs.Reading.{readingOrder}
 use Rattle.card.proofs.SoundLaws.{Reads, reads-holds}
-use Rattle.writer.specs.Writing.{formatFor, slotFrom}
+use Rattle.writer.specs.Writing.{formatFor}
+use Rattle.entries.specs.Slot.{slotFrom}
 use Rattle.writer.proofs.WritingLaws.{Accepted}
 
 module _ (kind l : ℕ) (words ones twos : List ℕ) where

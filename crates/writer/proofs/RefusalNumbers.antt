@@ -8,7 +8,8 @@ use Rattle.answers.specs.Answer.{refused}
 use Rattle.answers.proofs.Numbered.{Numbered, none, also, numbered-append, numbered-turns, numbered-refused}
 use lib.ListN.{length}
 use Rattle.entries.proofs.Laws.{entry-numbered}
-use Rattle.writer.specs.Writing.{formatFor, slotFrom, listsTests, writing}
+use Rattle.writer.specs.Writing.{formatFor, listsTests, writing}
+use Rattle.entries.specs.Slot.{slotFrom}
 
 lists-numbered : (limit kind l : ℕ) (words ones twos : List ℕ) → Numbered (listsTests limit kind l words ones twos)
 unfolding listsTests

@@ -30,7 +30,8 @@ use Rattle.card.proofs.FetchingLaws.{admission-given, admission-admits, entry-f
 use Rattle.card.proofs.ListingLaws.{Fits, listed-given, listed-admitted, listed-words, listed-ones, listed-twos}
 use Rattle.card.proofs.Steps.{Lists, lists-all}
 use Rattle.writer.specs.declared.Written.{Written}
-use Rattle.writer.specs.Writing.{formatFor, slotFrom, saysWritten, Writes}
+use Rattle.writer.specs.Writing.{formatFor, saysWritten, Writes}
+use Rattle.entries.specs.Slot.{slotFrom}
 use Rattle.writer.proofs.WritingLaws.{Accepted, wrote-accepted, wrote-room, wrote-size, wrote-bytes, wrote-card, wrote-nothing}
 use Rattle.writer.proofs.ReadBackLaws.{accepted-order, written-entry-is, written-numbers}
 use Rattle.writer.proofs.AgainLaws.{itsWords, itsOnes, itsTwos, length-its, admitted-size, again-accepted, again-card}

@@ -19,7 +19,8 @@ use Rattle.layout.specs.Layout.{sizeOf}
 use Rattle.layout.specs.Card.{cardOf}
 use Rattle.writer.specs.declared.Written.{Written}
 use Rattle.writer.specs.declared.Written.the-variants.{Card, Refused}
-use Rattle.writer.specs.Writing.{formatFor, slotFrom, sameLength, listsTests, writing, saysWritten, Writes}
+use Rattle.writer.specs.Writing.{formatFor, sameLength, listsTests, writing, saysWritten, Writes}
+use Rattle.entries.specs.Slot.{slotFrom}
 
 -- ---- three lengths
 

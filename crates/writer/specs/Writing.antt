@@ -1,7 +1,6 @@
 -- Writing a card (01, "What can come back"): "Writing takes kind, l and three lists (words, place one, place two) and tests 5, 6, 13, 7,
 -- entries in turn (10, 11), then 12; it touches only the card's bytes of the output." `limit` is the most entries that a card may have.
 --   formatFor kind l words                        == the format of a card of these words: it has as many entries as there are words
---   slotFrom words ones twos e                    == entry e of the lists, as it is stored
 --   sameLength words ones twos                    == the lists have one length
 --   listsTests limit kind l words ones twos       == the tests of the lists, in their order
 --   writing limit kind l words ones twos room     == what the writer answers, where the output has `room` bytes
@@ -12,13 +11,13 @@ use mathlib.Core.Path.{_≡_}
 use Prim.Native.Nat.{ℕ}
 use mathlib.Core.Bool.{Bool, _&&_}
 use mathlib.Core.List.{List, [], _∷_, _++_}
-use lib.ListN.{length, getD, drop}
+use lib.ListN.{length, drop}
 use lib.Dec.{leb, eqb}
 use Rattle.answers.specs.Numbers.{Kind, Length, Lists, Count, Room}
 use Rattle.answers.specs.Answer.{Answer, given, refused, Test, test, first}
 use Rattle.answers.specs.Row.{inTurn}
 use Rattle.entries.specs.declared.Format.{Format}
-use Rattle.entries.specs.declared.Slot.{Slot}
+use Rattle.entries.specs.Slot.{slotFrom}
 use Rattle.entries.specs.Fault.{leastLength, mostLength, entryTests}
 use Rattle.layout.specs.Bounds.{leastEntries, isWithin, isKind}
 use Rattle.layout.specs.Layout.{sizeOf}
@@ -28,9 +27,6 @@ use Rattle.writer.specs.declared.Written.the-variants.{Card, Refused}
 
 abbrev pub formatFor : ℕ → ℕ → List ℕ → Format
 formatFor kind l words = record { kind = kind; l = l; m = length words }
-
-unfoldable pub slotFrom : List ℕ → List ℕ → List ℕ → ℕ → Slot
-slotFrom words ones twos e = record { word = getD words e 0; one = getD ones e 0; two = getD twos e 0 }
 
 -- not "the writer's three lists differ in length"
 abbrev pub sameLength : List ℕ → List ℕ → List ℕ → Bool

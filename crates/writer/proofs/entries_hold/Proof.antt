@@ -10,7 +10,7 @@ use Rattle.answers.specs.Row.{inTurn}
 use Rattle.answers.proofs.Laws.{turn-holds, turn-refused, turns-end, told-holds, told-refused}
 use Rattle.entries.specs.declared.Format.{Format}
 use Rattle.entries.specs.Fault.{entryTests}
-use Rattle.writer.specs.Writing.{slotFrom}
+use Rattle.entries.specs.Slot.{slotFrom}
 use Rattle.writer.proofs.entries_hold.Statement.{statement}
 use Rattle.writer.proofs.entries_hold.Tie as tie
 

@@ -9,7 +9,7 @@ use lib.ListN.{length, drop, length-append, length-take, length-drop}
 use Rattle.block.specs.Block.{blockBytes}
 use Rattle.layout.specs.Layout.{entryBlocks, sizeOf}
 use Rattle.layout.proofs.CardLaws.{length-head-block}
-use Rattle.writer.specs.Writing.{slotFrom}
+use Rattle.entries.specs.Slot.{slotFrom}
 use Rattle.writer.proofs.PuttingLaws.{Blocked, blocked-one, blocked-turn, blocked-length, blocked-all}
 use Rattle.writer.proofs.put_card.Statement.{statement}
 use Rattle.writer.proofs.put_card.Tie as tie

@@ -2,7 +2,7 @@
 use borrow.Author.Needs.{needs}
 use Prim.Native.Nat.{_-_}
 use native.Mathlib.Omega.{arith}
-use Rattle.writer.specs.Writing.{slotFrom}
+use Rattle.entries.specs.Slot.{slotFrom}
 use Rattle.writer.proofs.PuttingLaws.{Slotted, slotted-none, slotted-turn, slotted-length, slotted-all}
 use Rattle.writer.proofs.put_slots.Statement.{statement}
 use Rattle.writer.proofs.put_slots.Tie as tie

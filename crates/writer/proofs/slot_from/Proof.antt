@@ -1,6 +1,6 @@
 -- `writer::slot_from` meets its contract. Assumes nothing.
 use mathlib.Core.Path.{refl}
-use Rattle.writer.specs.Writing.{slotFrom}
+use Rattle.entries.specs.Slot.{slotFrom}
 use borrow.Author.Needs.{needs}
 use Rattle.writer.proofs.slot_from.Statement.{statement}
 use Rattle.writer.proofs.slot_from.Tie as tie

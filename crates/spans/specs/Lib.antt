@@ -1,0 +1,4 @@
+-- `Walk` is the walk as 01 words it, `Settling` what is answered under a budget and what it means, `Run` a run under a budget.
+pub mod Walk
+pub mod Settling
+pub mod Run

@@ -1,0 +1,38 @@
+-- A run of the walk under a budget, as a fold over what the walk reaches: what is kept on the way, and what it comes to. It stops when two
+-- builds are complete, or when a placement is to be made and the budget is spent.
+--   Run                       == how far a run has come
+--   reach m budget r ws       == the run r when the words ws are reached, on a card of m entries
+--   run m budget r reached    == the run r over all of `reached`, in order
+--   comeTo l budget r         == what it comes to
+-- Assumes nothing.
+use mathlib.Core.Bool.{cond}
+use mathlib.Core.List.{List, [], _∷_}
+use Prim.Native.Nat.{ℕ, suc}
+use lib.Dec.{eqb, leb}
+use lib.ListN.{length}
+use Rattle.sequence.specs.Build.{spell}
+use Rattle.sequence.specs.Verdict.{sole, several, noBuild, Outcome, settled, unsettled}
+
+-- no build yet, one build, or two, the first of which is kept, each with the placements made; or the budget is spent
+pub data Run : Type 0 where
+  searching : ℕ → Run
+  one : List ℕ → ℕ → Run
+  two : List ℕ → ℕ → Run
+  spent : Run
+
+unfoldable pub reach : ℕ → ℕ → Run → List ℕ → Run
+reach m budget (searching n) ws = cond (leb budget n) spent (cond (eqb (length ws) m) (one ws (suc n)) (searching (suc n)))
+reach m budget (one vs n) ws = cond (leb budget n) spent (cond (eqb (length ws) m) (two vs (suc n)) (one vs (suc n)))
+reach m budget (two vs n) ws = two vs n
+reach m budget spent ws = spent
+
+unfoldable pub run : ℕ → ℕ → Run → List (List ℕ) → Run
+unfolding reach
+run m budget r [] = r
+run m budget r (ws ∷ reached) = run m budget (reach m budget r ws) reached
+
+abbrev pub comeTo : ℕ → ℕ → Run → Outcome
+comeTo l budget (searching n) = settled noBuild n
+comeTo l budget (one ws n) = settled (sole (spell l ws)) n
+comeTo l budget (two ws n) = settled (several (spell l ws)) n
+comeTo l budget spent = unsettled budget
