@@ -94,8 +94,8 @@ arranged-sound l (suc n) i p es k h =
 
 pub arrangements-sound : {l : ℕ} {es order : List Entry} → In order (arrangements l es) → Arrangement l es order
 unfolding arrangements
-arrangements-sound {l} {es} h =
-    let a = arranged-sound l (length es) 0 none es refl h in record { each = a .each; standing = a .standing }
+arrangements-sound {l} {es} {order} h =
+    let a = arranged-sound l (length es) 0 none es {order = order} refl h in record { each = a .each; standing = a .standing }
 
 -- ---- each arrangement is among them
 
