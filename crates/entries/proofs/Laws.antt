@@ -10,7 +10,7 @@ use lib.Dec.{ltb}
 use borrow.Author.Tests.{lt-ltb, le-ltb, le-leb, lt-leb, ltb-true, eq-eqb, ne-eqb}
 use Rattle.answers.specs.Numbers.{Word, Places}
 use Rattle.answers.specs.Answer.{given, refused, sound, test, first}
-use Rattle.answers.proofs.Laws.{first-pass, first-fail, first-last}
+use Rattle.answers.proofs.Laws.{first-pass, first-fail, first-last, first-passed}
 use Rattle.answers.proofs.Numbered.{Numbered, none, also}
 use Rattle.entries.specs.declared.Format.{Format}
 use Rattle.entries.specs.declared.Slot.{Slot}
@@ -102,3 +102,10 @@ module _ (f : Format) (e : ℕ) (s : Slot) where
 
     pub entry-sound : placesHold (f .kind) (f .m) (s .one) (s .two) ≡ true → first (entryTests f e s) sound ≡ given sound
     entry-sound h = word-fits fits ∙ first-last _ _ _ _ h
+
+  -- what a sound entry has
+  pub sound-has : first (entryTests f e s) sound ≡ given sound → (s .word < 4 ^ f .l) × (placesHold (f .kind) (f .m) (s .one) (s .two) ≡ true)
+  unfolding entryTests
+  sound-has h =
+      let word = first-passed _ _ _ _ _ _ h in
+      (ltb-true (s .word) (4 ^ f .l) (word .0), first-passed _ _ _ _ _ _ (word .1) .0)

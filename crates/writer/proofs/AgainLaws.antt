@@ -10,6 +10,7 @@ use Rattle.answers.proofs.RowLaws.{length-row, row-at}
 use Rattle.block.specs.Bytes.{AreBytes}
 use Rattle.entries.specs.declared.Format.{Format}
 use Rattle.entries.specs.Fault.{entryTests}
+use Rattle.entries.specs.Slot.{slotFrom}
 use Rattle.layout.specs.Layout.{toldBy, sizeOf, slotOf}
 use Rattle.layout.specs.Card.{cardOf}
 use Rattle.layout.proofs.CardLaws.{card-same}
@@ -17,9 +18,8 @@ use Rattle.layout.proofs.AgainLaws.{card-again}
 use Rattle.card.specs.Fetching.{admission}
 use Rattle.card.proofs.FetchingLaws.{admission-admits}
 use Rattle.card.proofs.SoundLaws.{Reads, holds-reads}
-use Rattle.writer.specs.Writing.{formatFor}
-use Rattle.entries.specs.Slot.{slotFrom}
-use Rattle.writer.proofs.WritingLaws.{Accepted}
+use Rattle.lists.specs.Lists.{formatFor}
+use Rattle.lists.proofs.Laws.{Accepted}
 
 module _ (limit : ℕ) (card : List ℕ) {f : Format} (admitted : admission limit card ≡ given f) where
   reads : Reads limit card

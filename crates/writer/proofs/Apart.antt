@@ -7,12 +7,12 @@ use Prim.Native.Nat.{ℕ}
 use Rattle.answers.specs.Row.{row}
 use Rattle.entries.specs.declared.Format.{Format}
 use Rattle.entries.specs.declared.Slot.{Slot}
+use Rattle.entries.specs.Slot.{slotFrom}
 use Rattle.layout.specs.Layout.{toldBy, slotOf}
 use Rattle.layout.specs.Card.{cardOf}
 use Rattle.layout.proofs.LaidLaws.{card-told}
-use Rattle.writer.specs.Writing.{formatFor, sameLength}
-use Rattle.entries.specs.Slot.{slotFrom}
-use Rattle.writer.proofs.WritingLaws.{lengths-same}
+use Rattle.lists.specs.Lists.{formatFor, sameLength}
+use Rattle.lists.proofs.Laws.{lengths-same}
 use Rattle.writer.proofs.ReadBackLaws.{written-numbers}
 
 -- what a card says, by its bytes alone

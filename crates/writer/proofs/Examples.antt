@@ -14,7 +14,8 @@ use Rattle.entries.specs.Fault.{pair, span, noPlace, pairHolds, spanHolds, plac
 use Rattle.layout.specs.Bounds.{mostEntries}
 use Rattle.layout.specs.Card.{headBytes, slotsBytes, ownBytes, blocksOf, cardOf}
 use Rattle.card.proofs.Examples.{headOf, s1}
-use Rattle.writer.specs.Writing.{formatFor, listsTests, writing}
+use Rattle.lists.specs.Lists.{formatFor, listsTests}
+use Rattle.writer.specs.Writing.{writing}
 
 -- S1: AC[0,2] CA[1,3] AG[0,2] GA[1,3]
 pub s1-written :

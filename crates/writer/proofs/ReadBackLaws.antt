@@ -10,6 +10,7 @@ use Rattle.answers.proofs.RowLaws.{row-same, row-of}
 use Rattle.entries.specs.declared.Format.{Format}
 use Rattle.entries.specs.declared.Slot.{Slot}
 use Rattle.entries.specs.Entry.{entryOf}
+use Rattle.entries.specs.Slot.{slotFrom}
 use Rattle.layout.specs.Layout.{toldBy, slotOf, entryAt}
 use Rattle.layout.specs.Card.{cardOf}
 use Rattle.layout.proofs.Laws.{entry-is}
@@ -17,9 +18,8 @@ use Rattle.layout.proofs.CardLaws.{card-slot}
 use Rattle.layout.proofs.LaidLaws.{card-told, card-laid}
 use Rattle.card.specs.Reading.{readingOrder}
 use Rattle.card.proofs.SoundLaws.{Reads, reads-holds}
-use Rattle.writer.specs.Writing.{formatFor}
-use Rattle.entries.specs.Slot.{slotFrom}
-use Rattle.writer.proofs.WritingLaws.{Accepted}
+use Rattle.lists.specs.Lists.{formatFor}
+use Rattle.lists.proofs.Laws.{Accepted}
 
 module _ (kind l : ℕ) (words ones twos : List ℕ) where
   abbrev format : Format

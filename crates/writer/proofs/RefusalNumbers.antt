@@ -3,21 +3,11 @@ use mathlib.Core.Path.{_≡_}
 use mathlib.Core.List.{List}
 use Prim.Native.Nat.{ℕ, _<_}
 use native.Mathlib.Omega.{arith}
-use Rattle.answers.specs.Numbers.{Kind, Length, Lists, Count, Room}
+use Rattle.answers.specs.Numbers.{Room}
 use Rattle.answers.specs.Answer.{refused}
-use Rattle.answers.proofs.Numbered.{Numbered, none, also, numbered-append, numbered-turns, numbered-refused}
-use lib.ListN.{length}
-use Rattle.entries.proofs.Laws.{entry-numbered}
-use Rattle.writer.specs.Writing.{formatFor, listsTests, writing}
-use Rattle.entries.specs.Slot.{slotFrom}
-
-lists-numbered : (limit kind l : ℕ) (words ones twos : List ℕ) → Numbered (listsTests limit kind l words ones twos)
-unfolding listsTests
-lists-numbered limit kind l words ones twos =
-    also {n = Kind} (omega arith)
-    (also {n = Length} (omega arith)
-    (also {n = Lists} (omega arith)
-    (also {n = Count} (omega arith) (numbered-turns (λ e. entry-numbered (formatFor kind l words) e (slotFrom words ones twos e)) 0 (length words)))))
+use Rattle.answers.proofs.Numbered.{none, also, numbered-append, numbered-refused}
+use Rattle.lists.proofs.Laws.{lists-numbered}
+use Rattle.writer.specs.Writing.{writing}
 
 pub writing-number : (limit kind l : ℕ) (words ones twos : List ℕ) (room : ℕ) {n p : ℕ}
     → writing limit kind l words ones twos room ≡ refused n p → 0 < n

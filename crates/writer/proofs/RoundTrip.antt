@@ -19,6 +19,7 @@ use Rattle.answers.proofs.RowLaws.{row-same}
 use Rattle.entries.specs.declared.Format.{Format}
 use Rattle.entries.specs.declared.Slot.{Slot}
 use Rattle.entries.specs.Entry.{entryOf}
+use Rattle.entries.specs.Slot.{slotFrom}
 use Rattle.layout.specs.Layout.{sizeOf, slotOf, entryAt}
 use Rattle.layout.specs.Card.{cardOf}
 use Rattle.layout.proofs.CardLaws.{length-card}
@@ -29,10 +30,11 @@ use Rattle.card.specs.Listing.{Listed}
 use Rattle.card.proofs.FetchingLaws.{admission-given, admission-admits, entry-found}
 use Rattle.card.proofs.ListingLaws.{Fits, listed-given, listed-admitted, listed-words, listed-ones, listed-twos}
 use Rattle.card.proofs.Steps.{Lists, lists-all}
+use Rattle.lists.specs.Lists.{formatFor}
+use Rattle.lists.proofs.Laws.{Accepted}
 use Rattle.writer.specs.declared.Written.{Written}
-use Rattle.writer.specs.Writing.{formatFor, saysWritten, Writes}
-use Rattle.entries.specs.Slot.{slotFrom}
-use Rattle.writer.proofs.WritingLaws.{Accepted, wrote-accepted, wrote-room, wrote-size, wrote-bytes, wrote-card, wrote-nothing}
+use Rattle.writer.specs.Writing.{saysWritten, Writes}
+use Rattle.writer.proofs.WritingLaws.{wrote-accepted, wrote-room, wrote-size, wrote-bytes, wrote-card, wrote-nothing}
 use Rattle.writer.proofs.ReadBackLaws.{accepted-order, written-entry-is, written-numbers}
 use Rattle.writer.proofs.AgainLaws.{itsWords, itsOnes, itsTwos, length-its, admitted-size, again-accepted, again-card}
 

@@ -1,45 +1,22 @@
 -- Writing a card (01, "What can come back"): "Writing takes kind, l and three lists (words, place one, place two) and tests 5, 6, 13, 7,
 -- entries in turn (10, 11), then 12; it touches only the card's bytes of the output." `limit` is the most entries that a card may have.
---   formatFor kind l words                        == the format of a card of these words: it has as many entries as there are words
---   sameLength words ones twos                    == the lists have one length
---   listsTests limit kind l words ones twos       == the tests of the lists, in their order
 --   writing limit kind l words ones twos room     == what the writer answers, where the output has `room` bytes
 --   outputAfter card before answer                == the output after the answer, where it was `before`
 --   Writes limit kind l words ones twos before r after    == the answer r, and every byte of the output afterwards
--- An entry's fault is the reader's own, `entryTests`. Assumes nothing.
+-- The tests of the lists are `listsTests`. Assumes nothing.
 use mathlib.Core.Path.{_≡_}
 use Prim.Native.Nat.{ℕ}
-use mathlib.Core.Bool.{Bool, _&&_}
 use mathlib.Core.List.{List, [], _∷_, _++_}
 use lib.ListN.{length, drop}
-use lib.Dec.{leb, eqb}
-use Rattle.answers.specs.Numbers.{Kind, Length, Lists, Count, Room}
-use Rattle.answers.specs.Answer.{Answer, given, refused, Test, test, first}
-use Rattle.answers.specs.Row.{inTurn}
-use Rattle.entries.specs.declared.Format.{Format}
+use lib.Dec.{leb}
+use Rattle.answers.specs.Numbers.{Room}
+use Rattle.answers.specs.Answer.{Answer, given, refused, test, first}
 use Rattle.entries.specs.Slot.{slotFrom}
-use Rattle.entries.specs.Fault.{leastLength, mostLength, entryTests}
-use Rattle.layout.specs.Bounds.{leastEntries, isWithin, isKind}
 use Rattle.layout.specs.Layout.{sizeOf}
 use Rattle.layout.specs.Card.{cardOf}
+use Rattle.lists.specs.Lists.{formatFor, listsTests}
 use Rattle.writer.specs.declared.Written.{Written}
 use Rattle.writer.specs.declared.Written.the-variants.{Card, Refused}
-
-abbrev pub formatFor : ℕ → ℕ → List ℕ → Format
-formatFor kind l words = record { kind = kind; l = l; m = length words }
-
--- not "the writer's three lists differ in length"
-abbrev pub sameLength : List ℕ → List ℕ → List ℕ → Bool
-sameLength words ones twos = eqb (length words) (length ones) && eqb (length words) (length twos)
-
--- 5, 6, 13, 7, entries in turn (10, 11)
-unfoldable pub listsTests : ℕ → ℕ → ℕ → List ℕ → List ℕ → List ℕ → List Test
-listsTests limit kind l words ones twos =
-    test (isKind kind) Kind 0
-    ∷ test (isWithin leastLength mostLength l) Length 0
-    ∷ test (sameLength words ones twos) Lists 0
-    ∷ test (isWithin leastEntries limit (length words)) Count 0
-    ∷ inTurn (λ e. entryTests (formatFor kind l words) e (slotFrom words ones twos e)) 0 (length words)
 
 -- then 12: "for the writer below the card's size"; "the writer answers the card's length in bytes"
 unfoldable pub writing : ℕ → ℕ → ℕ → List ℕ → List ℕ → List ℕ → ℕ → Answer ℕ

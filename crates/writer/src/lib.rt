@@ -1,103 +1,25 @@
-// The card's writer, over the layout's promise, the entries' and the block layer's: from a kind, the letters of a word and three lists to a
-// card at the start of a lent output. `write` has no `requires`: it tests its own input.
+// The card's writer, over the promises of the lists' tests, the layout, the entries and the block layer: from a kind, the letters of a word and
+// three lists to a card at the start of a lent output. `write` has no `requires`: it tests its own input.
 ghost use mathlib.Core.Path.{_≡_};
 ghost use Prim.Native.Nat.{_+_, _*_, _≤_, _<_};
 ghost use lib.ListN.{length};
-ghost use Rattle.answers.specs.Answer.{first, sound, saysHeld};
-ghost use Rattle.answers.specs.Row.{inTurn};
 ghost use Rattle.block.specs.Bytes.{putAt};
 ghost use Rattle.block.specs.Block.{blockBytes};
 ghost use Rattle.block.specs.Sealing.{sealed};
 ghost use Rattle.entries.specs.Slot.{entryBytes, slotFrom};
-ghost use Rattle.entries.specs.Fault.{mostLength, entryTests};
 ghost use Rattle.layout.specs.Bounds.{mostEntries};
 ghost use Rattle.layout.specs.Layout.{entryBlocks, sizeOf, entriesBefore, entriesIn};
 ghost use Rattle.layout.specs.Card.{slotsBytes, cardOf};
-ghost use Rattle.writer.specs.Writing.{sameLength, listsTests, Writes};
+ghost use Rattle.writer.specs.Writing.{Writes};
 use answers::Held;
 use answers::Refusal;
 use block::BLOCK;
 use entries::Format;
-use entries::Slot;
 
 // What writing answers: the card's length in bytes, or the refusal.
 pub enum Written {
     Card(usize),
     Refused(Refusal),
-}
-
-// Entry e of the lists, as it is stored.
-fn slot_from(words: &[u32], ones: &[u16], twos: &[u16], e: usize) -> Slot
-    requires { ⌜ (e < length (now words)) × (e < length (now ones)) × (e < length (now twos)) ⌝ }
-    ensures { λ r. ⌜ r ≡ slotFrom (now (words .entry)) (now (ones .entry)) (now (twos .entry)) e ⌝ }
-{
-    Slot {
-        word: words[e],
-        one: ones[e],
-        two: twos[e],
-    }
-}
-
-// Whether the lists have one length.
-fn same_length(words: &[u32], ones: &[u16], twos: &[u16]) -> bool
-    ensures { λ r. ⌜ r ≡ sameLength (now (words .entry)) (now (ones .entry)) (now (twos .entry)) ⌝ }
-{
-    if words.len() == ones.len() {
-        return words.len() == twos.len();
-    }
-    false
-}
-
-// Each entry of the lists in turn.
-fn entries_hold(f: Format, words: &[u32], ones: &[u16], twos: &[u16]) -> Held
-    requires { ⌜ (f .l ≤ mostLength) × (f .m ≤ length (now words)) × (f .m ≤ length (now ones)) × (f .m ≤ length (now twos)) ⌝ }
-    ensures { λ r. ⌜
-        saysHeld r
-        ≡ first (inTurn (λ e. entryTests f e (slotFrom (now (words .entry)) (now (ones .entry)) (now (twos .entry)) e)) 0 (f .m)) sound
-        ⌝ }
-{
-    let mut e = 0;
-    while e < f.m {
-        if let Held::Refused(r) = entries::entry_holds(f, e, slot_from(words, ones, twos, e)) {
-            return Held::Refused(r);
-        }
-        e += 1;
-    }
-    Held::Holds
-}
-
-// The kind, the letters of a word, and the lists.
-fn lists_hold(kind: usize, l: usize, words: &[u32], ones: &[u16], twos: &[u16]) -> Held
-    ensures { λ r. ⌜
-        saysHeld r ≡ first (listsTests mostEntries kind l (now (words .entry)) (now (ones .entry)) (now (twos .entry))) sound
-        ⌝ }
-{
-    if !layout::is_kind(kind) {
-        return Held::Refused(Refusal {
-            number: answers::KIND,
-            place: 0,
-        });
-    }
-    if !layout::is_length(l) {
-        return Held::Refused(Refusal {
-            number: answers::LENGTH,
-            place: 0,
-        });
-    }
-    if !same_length(words, ones, twos) {
-        return Held::Refused(Refusal {
-            number: answers::LISTS,
-            place: 0,
-        });
-    }
-    let m = words.len();
-    if !layout::is_count(m) {
-        return Held::Refused(Refusal {
-            number: answers::COUNT,
-            place: 0,
-        });
-    }
-    entries_hold(Format { kind, l, m }, words, ones, twos)
 }
 
 // Writes n entries of the lists, from entry e on, into a part from its first byte on.
@@ -111,7 +33,7 @@ fn put_slots(part: &mut [u8], words: &[u32], ones: &[u16], twos: &[u16], e: usiz
 {
     let mut j = 0;
     while j < n {
-        entries::put_slot(part, j, slot_from(words, ones, twos, e + j));
+        entries::put_slot(part, j, lists::slot_from(words, ones, twos, e + j));
         j += 1;
     }
 }
@@ -160,7 +82,7 @@ pub fn write(
         Writes mostEntries kind l (now (words .entry)) (now (ones .entry)) (now (twos .entry)) (now (out .entry)) r (now (out .exit))
         ⌝ }
 {
-    if let Held::Refused(r) = lists_hold(kind, l, words, ones, twos) {
+    if let Held::Refused(r) = lists::lists_hold(kind, l, words, ones, twos) {
         return Written::Refused(r);
     }
     let m = words.len();

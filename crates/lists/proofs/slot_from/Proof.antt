@@ -1,9 +1,9 @@
--- `writer::slot_from` meets its contract. Assumes nothing.
+-- `lists::slot_from` meets its contract. Assumes nothing.
 use mathlib.Core.Path.{refl}
 use Rattle.entries.specs.Slot.{slotFrom}
 use borrow.Author.Needs.{needs}
-use Rattle.writer.proofs.slot_from.Statement.{statement}
-use Rattle.writer.proofs.slot_from.Tie as tie
+use Rattle.lists.proofs.slot_from.Statement.{statement}
+use Rattle.lists.proofs.slot_from.Tie as tie
 
 mul-t5 : tie.Need-mul-t5
 mul-t5 c = search needs

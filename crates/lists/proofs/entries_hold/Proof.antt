@@ -1,4 +1,4 @@
--- `writer::entries_hold` meets its contract. The invariant: the tests of the entries that are left answer as those of all do. What falls is
+-- `lists::entries_hold` meets its contract. The invariant: the tests of the entries that are left answer as those of all do. What falls is
 -- how many are left. Assumes nothing.
 use borrow.Author.Needs.{needs}
 use mathlib.Core.Path.{_≡_, sym, _∙_}
@@ -11,8 +11,8 @@ use Rattle.answers.proofs.Laws.{turn-holds, turn-refused, turns-end, told-holds
 use Rattle.entries.specs.declared.Format.{Format}
 use Rattle.entries.specs.Fault.{entryTests}
 use Rattle.entries.specs.Slot.{slotFrom}
-use Rattle.writer.proofs.entries_hold.Statement.{statement}
-use Rattle.writer.proofs.entries_hold.Tie as tie
+use Rattle.lists.proofs.entries_hold.Statement.{statement}
+use Rattle.lists.proofs.entries_hold.Tie as tie
 
 -- the tests of entry e
 abbrev listedTests : Format → List ℕ → List ℕ → List ℕ → ℕ → List Test

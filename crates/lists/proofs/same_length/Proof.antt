@@ -1,7 +1,7 @@
--- `writer::same_length` meets its contract. Assumes nothing.
-use Rattle.writer.proofs.WritingLaws.{lengths-differ, lengths-if}
-use Rattle.writer.proofs.same_length.Statement.{statement}
-use Rattle.writer.proofs.same_length.Tie as tie
+-- `lists::same_length` meets its contract. Assumes nothing.
+use Rattle.lists.proofs.Laws.{lengths-differ, lengths-if}
+use Rattle.lists.proofs.same_length.Statement.{statement}
+use Rattle.lists.proofs.same_length.Tie as tie
 
 returns : tie.Need-returns
 returns c =

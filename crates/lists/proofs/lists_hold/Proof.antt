@@ -1,4 +1,4 @@
--- `writer::lists_hold` meets its contract: each return is one law of `listsTests`, from what the tests before it say. Assumes nothing.
+-- `lists::lists_hold` meets its contract: each return is one law of `listsTests`, from what the tests before it say. Assumes nothing.
 use borrow.Author.Needs.{needs}
 use mathlib.Core.Path.{_≡_, sym, _∙_}
 use mathlib.Core.Bool.{true}
@@ -8,10 +8,10 @@ use Rattle.answers.proofs.Tests.{failed, passed}
 use Rattle.entries.specs.Fault.{leastLength, mostLength}
 use Rattle.layout.specs.Bounds.{leastEntries, mostEntries, isKind, isWithin}
 use Rattle.layout.proofs.Laws.{within-both}
-use Rattle.writer.specs.Writing.{sameLength}
-use Rattle.writer.proofs.WritingLaws.{kind-wrong, length-wrong, lists-wrong, count-wrong, lists-go-on, lengths-same}
-use Rattle.writer.proofs.lists_hold.Statement.{statement}
-use Rattle.writer.proofs.lists_hold.Tie as tie
+use Rattle.lists.specs.Lists.{sameLength}
+use Rattle.lists.proofs.Laws.{kind-wrong, length-wrong, lists-wrong, count-wrong, lists-go-on, lengths-same}
+use Rattle.lists.proofs.lists_hold.Statement.{statement}
+use Rattle.lists.proofs.lists_hold.Tie as tie
 
 -- ---- the places where a test has been passed, and what it says there
 

@@ -1,0 +1,116 @@
+-- The laws of the lists' tests that this crate's proofs and the crates above cite: what each test that fails answers, what lists that hold
+-- have (`Accepted`, in both directions), and that no refusal has the number 0. No contract cites this file. Assumes nothing.
+use mathlib.Core.Path.{_≡_, sym, _∙_}
+use mathlib.Core.Bool.{true, false}
+use mathlib.Core.List.{List}
+use Prim.Native.Nat.{ℕ, _+_, _<_}
+use native.Mathlib.Omega.{arith}
+use lib.ListN.{length}
+use lib.Dec.{eqb}
+use borrow.Author.Tests.{eq-eqb, ne-eqb, eqb-true}
+use Rattle.answers.specs.Numbers.{Kind, Length, Lists, Count}
+use Rattle.answers.specs.Answer.{given, refused, sound, first}
+use Rattle.answers.specs.Row.{inTurn}
+use Rattle.answers.proofs.Laws.{first-pass, first-fail, first-passed, turns-hold, turns-held}
+use Rattle.answers.proofs.Numbered.{Numbered, also, numbered-turns}
+use Rattle.answers.proofs.Tests.{both}
+use Rattle.entries.specs.Slot.{slotFrom}
+use Rattle.entries.specs.Fault.{leastLength, mostLength, entryTests}
+use Rattle.entries.proofs.Laws.{entry-numbered}
+use Rattle.layout.specs.Bounds.{leastEntries, isWithin, isKind}
+use Rattle.lists.specs.Lists.{formatFor, sameLength, listsTests}
+
+-- ---- three lengths
+
+module _ (words ones twos : List ℕ) where
+  pub lengths-differ : (length words ≡ length ones → ⊥) → false ≡ sameLength words ones twos
+  lengths-differ n = rw (ne-eqb (length words) (length ones) n)
+
+  pub lengths-if : length words ≡ length ones → eqb (length words) (length twos) ≡ sameLength words ones twos
+  lengths-if e = rw (eq-eqb (length words) (length ones) e)
+
+  -- what holds where they are the same
+  pub lengths-same : sameLength words ones twos ≡ true → (length words ≡ length ones) × (length words ≡ length twos)
+  lengths-same h =
+      let parts = both (eqb (length words) (length ones)) (eqb (length words) (length twos)) h in
+      (eqb-true (length words) (length ones) (parts .0), eqb-true (length words) (length twos) (parts .1))
+
+-- ---- the lists
+
+module _ (limit kind l : ℕ) (words ones twos : List ℕ) where
+  pub kind-wrong : isKind kind ≡ false → first (listsTests limit kind l words ones twos) sound ≡ refused Kind 0
+  unfolding listsTests
+  kind-wrong h = first-fail _ _ _ _ _ h
+
+  module _ (kind-ok : isKind kind ≡ true) where
+    pub length-wrong : isWithin leastLength mostLength l ≡ false → first (listsTests limit kind l words ones twos) sound ≡ refused Length 0
+    unfolding listsTests
+    length-wrong h = first-pass _ _ _ _ _ kind-ok ∙ first-fail _ _ _ _ _ h
+
+    module _ (letters : isWithin leastLength mostLength l ≡ true) where
+      pub lists-wrong : sameLength words ones twos ≡ false → first (listsTests limit kind l words ones twos) sound ≡ refused Lists 0
+      unfolding listsTests
+      lists-wrong h = first-pass _ _ _ _ _ kind-ok ∙ first-pass _ _ _ _ _ letters ∙ first-fail _ _ _ _ _ h
+
+      module _ (same : sameLength words ones twos ≡ true) where
+        pub count-wrong : isWithin leastEntries limit (length words) ≡ false
+            → first (listsTests limit kind l words ones twos) sound ≡ refused Count 0
+        unfolding listsTests
+        count-wrong h =
+            first-pass _ _ _ _ _ kind-ok ∙ first-pass _ _ _ _ _ letters ∙ first-pass _ _ _ _ _ same ∙ first-fail _ _ _ _ _ h
+
+        -- then the entries answer
+        pub lists-go-on : isWithin leastEntries limit (length words) ≡ true
+            → first (inTurn (λ e. entryTests (formatFor kind l words) e (slotFrom words ones twos e)) 0 (length words)) sound
+            ≡ first (listsTests limit kind l words ones twos) sound
+        unfolding listsTests
+        lists-go-on h =
+            sym
+            (first-pass _ _ _ _ _ kind-ok ∙ first-pass _ _ _ _ _ letters ∙ first-pass _ _ _ _ _ same ∙ first-pass _ _ _ _ _ h)
+
+-- the lists that are accepted: a kind, l and m within their bounds, one length, and each entry sound
+pub record Accepted (limit kind l : ℕ) (words ones twos : List ℕ) : Type 0 where
+  pub a-kind : isKind kind ≡ true
+  pub letters : isWithin leastLength mostLength l ≡ true
+  pub as-ones : length words ≡ length ones
+  pub as-twos : length words ≡ length twos
+  pub count : isWithin leastEntries limit (length words) ≡ true
+  pub entries : (e : ℕ) → e < length words → first (entryTests (formatFor kind l words) e (slotFrom words ones twos e)) sound ≡ given sound
+
+module _ {limit kind l : ℕ} {words ones twos : List ℕ} where
+  pub lists-accepted : first (listsTests limit kind l words ones twos) sound ≡ given sound → Accepted limit kind l words ones twos
+  unfolding listsTests
+  lists-accepted e =
+      let a-kind = first-passed _ _ _ _ _ _ e in
+      let letters = first-passed _ _ _ _ _ _ (a-kind .1) in
+      let lists = first-passed _ _ _ _ _ _ (letters .1) in
+      let count = first-passed _ _ _ _ _ _ (lists .1) in
+      let same = lengths-same words ones twos (lists .0) in
+      record {
+        a-kind = a-kind .0;
+        letters = letters .0;
+        as-ones = same .0;
+        as-twos = same .1;
+        count = count .0;
+        entries = λ i h.
+            let here : 0 + i ≡ i = omega arith in
+            rw here at (turns-held (λ j. entryTests (formatFor kind l words) j (slotFrom words ones twos j)) (length words) 0 i (count .1) h);
+      }
+
+  pub accepted-lists : Accepted limit kind l words ones twos → first (listsTests limit kind l words ones twos) sound ≡ given sound
+  accepted-lists has =
+      let same : sameLength words ones twos ≡ true =
+      rw (eq-eqb (length words) (length ones) (has .as-ones)) (eq-eqb (length words) (length twos) (has .as-twos)) in
+      sym (lists-go-on limit kind l words ones twos (has .a-kind) (has .letters) same (has .count))
+      ∙ turns-hold (λ j. entryTests (formatFor kind l words) j (slotFrom words ones twos j)) (length words) 0 (λ i h.
+      let here : 0 + i ≡ i = omega arith in
+      rw here (has .entries i h))
+
+-- ---- the numbers
+
+-- whatever the lists are refused by is above 0
+pub lists-numbered : (limit kind l : ℕ) (words ones twos : List ℕ) → Numbered (listsTests limit kind l words ones twos)
+unfolding listsTests
+lists-numbered limit kind l words ones twos =
+    let each = numbered-turns (λ e. entry-numbered (formatFor kind l words) e (slotFrom words ones twos e)) 0 (length words) in
+    also {n = Kind} (omega arith) (also {n = Length} (omega arith) (also {n = Lists} (omega arith) (also {n = Count} (omega arith) each)))

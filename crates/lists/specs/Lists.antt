@@ -1,0 +1,34 @@
+-- The tests of a card's entries as three lists, words, place one and place two (01, "What can come back"): "Writing takes kind, l and three
+-- lists (words, place one, place two) and tests 5, 6, 13, 7, entries in turn (10, 11)". `limit` is the most entries that a card may have.
+--   formatFor kind l words                        == the format of a card of these words: it has as many entries as there are words
+--   sameLength words ones twos                    == the lists have one length
+--   listsTests limit kind l words ones twos       == the tests of the lists, in their order
+-- An entry's fault is the reader's own, `entryTests`. Assumes nothing.
+use Prim.Native.Nat.{ℕ}
+use mathlib.Core.Bool.{Bool, _&&_}
+use mathlib.Core.List.{List, _∷_}
+use lib.ListN.{length}
+use lib.Dec.{eqb}
+use Rattle.answers.specs.Numbers.{Kind, Length, Lists, Count}
+use Rattle.answers.specs.Answer.{Test, test}
+use Rattle.answers.specs.Row.{inTurn}
+use Rattle.entries.specs.declared.Format.{Format}
+use Rattle.entries.specs.Slot.{slotFrom}
+use Rattle.entries.specs.Fault.{leastLength, mostLength, entryTests}
+use Rattle.layout.specs.Bounds.{leastEntries, isWithin, isKind}
+
+abbrev pub formatFor : ℕ → ℕ → List ℕ → Format
+formatFor kind l words = record { kind = kind; l = l; m = length words }
+
+-- not "the writer's three lists differ in length"
+abbrev pub sameLength : List ℕ → List ℕ → List ℕ → Bool
+sameLength words ones twos = eqb (length words) (length ones) && eqb (length words) (length twos)
+
+-- 5, 6, 13, 7, entries in turn (10, 11)
+unfoldable pub listsTests : ℕ → ℕ → ℕ → List ℕ → List ℕ → List ℕ → List Test
+listsTests limit kind l words ones twos =
+    test (isKind kind) Kind 0
+    ∷ test (isWithin leastLength mostLength l) Length 0
+    ∷ test (sameLength words ones twos) Lists 0
+    ∷ test (isWithin leastEntries limit (length words)) Count 0
+    ∷ inTurn (λ e. entryTests (formatFor kind l words) e (slotFrom words ones twos e)) 0 (length words)
