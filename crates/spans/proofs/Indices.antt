@@ -1,5 +1,5 @@
 -- The walk over indices and marks: what the walk tries, when the entries that are left are those whose index is not marked, and a table
--- has the indices in the order of word, end and index.
+-- has the indices in the order of word, end and index. Assumes nothing.
 use mathlib.Core.Path.{_≡_, refl, sym, _∙_, ap, ap₂}
 use mathlib.Core.Bool.{Bool, true, false, cond, not, _&&_}
 use mathlib.Core.List.{List, [], _∷_, _++_, map, flatMap}
@@ -70,15 +70,15 @@ module _ {A B : Type 0} where
 
 -- ---- the numbers from i on
 
-numbers-in : (i n j : ℕ) → In j (numbers i n) → (i ≤ j) × (j < i + n)
+pub numbers-in : (i n j : ℕ) → In j (numbers i n) → (i ≤ j) × (j < i + n)
 numbers-in i (suc n) j first = (omega arith, omega arith)
 numbers-in i (suc n) j (later h) = let k = numbers-in (suc i) n j h in (omega arith, omega arith)
 
-in-numbers : (i n j : ℕ) → i ≤ j → j < i + n → In j (numbers i n)
+pub in-numbers : (i n j : ℕ) → i ≤ j → j < i + n → In j (numbers i n)
 in-numbers i zero j h g = absurd (omega arith)
 in-numbers i (suc n) j h g = ⊎-elim (λ e. rw (← e) first) (λ k. later (in-numbers (suc i) n j k (omega arith))) (eq-or-lt-of-le h)
 
-numbers-rising : (i n : ℕ) → Rising _<_ (numbers i n)
+pub numbers-rising : (i n : ℕ) → Rising _<_ (numbers i n)
 numbers-rising i zero = flat
 numbers-rising i (suc n) =
     rises {x = i} {xs = numbers (suc i) n} (λ j h. omega (arith, numbers-in (suc i) n j h)) (numbers-rising (suc i) n)

@@ -1,5 +1,5 @@
 -- The walk over indices: a list of the candidates' indices in the order of word, end and index gives what the walk tries, if of equal words
--- that stand together the first is taken. This is how the code finds it.
+-- that stand together the first is taken. This is how the code finds it. Assumes nothing.
 use mathlib.Core.Path.{_≡_, refl, sym, _∙_, ap}
 use mathlib.Core.Logic.{_⊎_, inl, inr, ⊎-elim}
 use mathlib.Core.Bool.{Bool, true, false, cond}

@@ -1,0 +1,11 @@
+-- `KeepLaws`: those of a list that pass a test.
+-- `StepLaws`: the slots of a place: what is due, what is opened, and what is tried from a slot on.
+-- `Candidates`: who is a candidate at a place, by the place's list alone.
+-- `RunLaws`: the run at a place, as the code makes it.
+pub mod KeepLaws
+pub mod SpanLaws
+pub mod StepLaws
+pub mod Candidates
+pub mod RunLaws
+pub mod Turns
+pub mod Held

@@ -1,0 +1,170 @@
+-- The run at a place, as the code makes it: a fold over what is tried from a slot on, each a placement and the run below it. What the code
+-- keeps shows the run. Assumes nothing.
+use mathlib.Core.Path.{_≡_, refl, sym, ap, _∙_}
+use mathlib.Core.Logic.{⊎-elim}
+use mathlib.Core.Bool.{Bool, true, false, cond, _&&_, not}
+use mathlib.Core.List.{List, [], _∷_, _++_, map, foldl}
+use mathlib.Core.Option.{Option, some}
+use Prim.Native.Nat.{ℕ, suc, _+_, _-_, _^_, _≤_, _<_}
+use native.Mathlib.Omega.{arith}
+use native.Mathlib.Numerals.{add-one}
+use lib.ListN.{length, getD, set, take, length-append, length-set}
+use lib.Seq.{take-all, take-take, take-at, take-suc-set, getD-set-same, getD-set-other}
+use lib.Dec.{eqb, leb}
+use borrow.Author.Tests.{eqb-true, eqb-false, eq-eqb, ne-eqb, le-leb, lt-leb}
+use Rattle.sequence.specs.Lists.{In, first, later, keep, numbers}
+use Rattle.sequence.proofs.ListLaws.{in-cons, in-keep}
+use Rattle.spans.specs.Walk.{walk}
+use Rattle.spans.specs.Run.{Run, searching, one, two, spent, reach, run}
+use Rattle.spans.proofs.Order.{firsts, firstsAfter}
+use Rattle.spans.proofs.Runs.{run-two, run-spent}
+use Rattle.walk.specs.Steps.{isLeft, spanAt, left, tries, noWord, Placed}
+use Rattle.walk.specs.Going.{Shows, none-yet, one-build, two-builds, stopped}
+use Rattle.walk.proofs.KeepLaws.{same-test, keep-same}
+
+-- ---- folds
+
+pub fold-same : {A B : Type 0} (f g : B → A → B) (l : List A) (b : B) → ((c : B) (x : A) → In x l → f c x ≡ g c x) → foldl f b l ≡ foldl g b l
+fold-same f g [] b h = refl
+fold-same f g (x ∷ l) b h =
+    ap (λ c. foldl f c l) (h b x first) ∙ fold-same f g l (g b x) (λ c y m. h c y (later m))
+
+-- ---- what is tried of a list
+
+module _ (ok : ℕ → Bool) (word last : ℕ → ℕ) where
+  pub tries-in : (w : ℕ) (js : List ℕ) {j : ℕ} → In j (tries ok word w js) → In j js
+  unfolding tries
+  tries-in w (k ∷ js) {j} h = go (ok k && not (eqb (word k) w)) (tries-in (word k) js) (tries-in w js) h
+    where
+      go : (t : Bool) → (In j (tries ok word (word k) js) → In j js) → (In j (tries ok word w js) → In j js)
+          → In j (cond t (k ∷ tries ok word (word k) js) (tries ok word w js))
+          → In j (k ∷ js)
+      go true new old m = ⊎-elim (λ e. rw e first) (λ g. later (new g)) (in-cons m)
+      go false new old m = later (old m)
+
+  tries-after : (w : ℕ) (js : List ℕ) → firstsAfter word last w (keep ok js) ≡ tries ok word w js
+  unfolding tries firstsAfter
+  tries-after w [] = refl
+  tries-after w (j ∷ js) = go (ok j) (tries-after (word j) js) (tries-after w js)
+    where
+      by : (t : Bool) → firstsAfter word last (word j) (keep ok js) ≡ tries ok word (word j) js
+          → firstsAfter word last w (keep ok js) ≡ tries ok word w js
+          → cond t (firstsAfter word last w (keep ok js)) (j ∷ firstsAfter word last (word j) (keep ok js))
+          ≡ cond (not t) (j ∷ tries ok word (word j) js) (tries ok word w js)
+      by true new old = old
+      by false new old = ap (λ r. j ∷ r) new
+
+      go : (s : Bool) → firstsAfter word last (word j) (keep ok js) ≡ tries ok word (word j) js
+          → firstsAfter word last w (keep ok js) ≡ tries ok word w js
+          → firstsAfter word last w (cond s (j ∷ keep ok js) (keep ok js))
+          ≡ cond (s && not (eqb (word j) w)) (j ∷ tries ok word (word j) js) (tries ok word w js)
+      go true new old = by (eqb (word j) w) new old
+      go false new old = old
+
+  -- the firsts of each word are what is tried where no word was tried yet
+  pub tries-firsts : (w : ℕ) (js : List ℕ) → ((j : ℕ) → In j js → word j ≡ w → ⊥) → firsts word last (keep ok js) ≡ tries ok word w js
+  unfolding tries firsts
+  tries-firsts w [] h = refl
+  tries-firsts w (j ∷ js) h = go (ok j) (tries-firsts w js (λ k m. h k (later m)))
+    where
+      go : (s : Bool) → firsts word last (keep ok js) ≡ tries ok word w js
+          → firsts word last (cond s (j ∷ keep ok js) (keep ok js))
+          ≡ cond (s && not (eqb (word j) w)) (j ∷ tries ok word (word j) js) (tries ok word w js)
+      go true old = rw (ne-eqb (word j) w (h j first)) (ap (λ r. j ∷ r) (tries-after (word j) js))
+      go false old = old
+
+-- ---- an entry that is marked is no longer left
+
+left-set : (marks : List ℕ) (e k : ℕ) → e < length marks → isLeft (set marks e 1) k ≡ (isLeft marks k && not (eqb k e))
+left-set marks e k h = go (eqb k e) refl
+  where
+    go : (t : Bool) → eqb k e ≡ t → isLeft (set marks e 1) k ≡ (isLeft marks k && not t)
+    go true q = rw (eqb-true k e q, getD-set-same marks e 1 0 h) (sym (and-false (isLeft marks e)))
+      where
+        and-false : (b : Bool) → b && false ≡ false
+        and-false true = refl
+        and-false false = refl
+    go false q = rw (getD-set-other marks e k 1 0 (eqb-false k e q)) (sym (and-true (isLeft marks k)))
+      where
+        and-true : (b : Bool) → b && true ≡ b
+        and-true true = refl
+        and-true false = refl
+
+pub left-marked : (words ones twos marks : List ℕ) (e : ℕ) → e < length marks
+    → left words ones twos (set marks e 1)
+    ≡ map (spanAt words ones twos) (keep (λ k. isLeft marks k && not (eqb k e)) (numbers 0 (length words)))
+unfolding left
+left-marked words ones twos marks e h =
+    ap (map (spanAt words ones twos)) (keep-same (isLeft (set marks e 1)) _ (numbers 0 (length words)) (λ k m. left-set marks e k h))
+
+-- ---- what the code keeps
+
+pub shows-prefix : (path : List ℕ) {first : List ℕ} (w : ℕ) {n state : ℕ} {r : Run} → Shows (path ++ (w ∷ [])) n state first r
+    → Shows path n state first r
+shows-prefix path w (none-yet {first = kept} e) =
+    none-yet (sym (take-take (length path) (length (path ++ (w ∷ []))) kept (omega (arith, length-append path (w ∷ []))))
+    ∙ ap (take (length path)) e ∙ take-at path (w ∷ []) (length path) refl)
+shows-prefix path w one-build = one-build
+shows-prefix path w two-builds = two-builds
+shows-prefix path w stopped = stopped
+
+-- a placement that is to be made where the budget is spent
+pub shows-spent : (m budget : ℕ) {path first : List ℕ} {n state : ℕ} {r : Run} → Shows path n state first r → state < 2 → n ≡ budget
+    → (ws : List ℕ) → reach m budget r ws ≡ spent
+unfolding reach
+shows-spent m budget (none-yet {n} e) h q ws = rw (le-leb budget n (omega arith))
+shows-spent m budget (one-build {n}) h q ws = rw (le-leb budget n (omega arith))
+shows-spent m budget two-builds h q ws = absurd (omega arith)
+shows-spent m budget stopped h q ws = absurd (omega arith)
+
+-- ---- a placement
+
+-- the words that stand after it
+after-set : (path kept : List ℕ) (w : ℕ) → length path < length kept → take (length path) kept ≡ path
+    → take (length (path ++ (w ∷ []))) (set kept (length path) w) ≡ path ++ (w ∷ [])
+after-set path kept w h e =
+    let n : length (path ++ (w ∷ [])) ≡ suc (length path) = omega (arith, length-append path (w ∷ [])) in
+    rw n (take-suc-set kept (length path) w h) ∙ ap (λ l. l ++ (w ∷ [])) e
+
+-- at the last place they are all
+all-set : (path kept : List ℕ) (w : ℕ) → length kept ≡ length path + 1 → take (length path) kept ≡ path
+    → set kept (length path) w ≡ path ++ (w ∷ [])
+all-set path kept w h e =
+    sym (take-all (length (path ++ (w ∷ []))) (set kept (length path) w)
+    (omega (arith, length-append path (w ∷ []), length-set kept (length path) w)))
+    ∙ after-set path kept w (omega arith) e
+
+pub shows-reach : (m budget w : ℕ) {path first : List ℕ} {n state n′ state′ : ℕ} {r : Run} → Shows path n state first r → state < 2 → n < budget
+    → length first ≡ m → length path < m → Placed (length path) m n state n′ state′
+    → Shows (path ++ (w ∷ [])) n′ state′ (cond (eqb state 0) (set first (length path) w) first) (reach m budget r (path ++ (w ∷ [])))
+unfolding reach
+shows-reach m budget w {path} {n′} {state′} (none-yet {n} {first = kept} e) h lt all inside p =
+    rw (lt-leb budget n lt) (go (eqb (length (path ++ (w ∷ []))) m) refl)
+  where
+    count : n′ ≡ suc n
+    count = p .count ∙ add-one n
+
+    go : (t : Bool) → eqb (length (path ++ (w ∷ []))) m ≡ t
+        → Shows (path ++ (w ∷ [])) n′ state′ (set kept (length path) w) (cond t (one (path ++ (w ∷ [])) (suc n)) (searching (suc n)))
+    go true q =
+        let last : length path + 1 ≡ m = omega (arith, eqb-true (length (path ++ (w ∷ []))) m q, length-append path (w ∷ [])) in
+        rw (p .last last, count, all-set path kept w (omega arith) e) one-build
+    go false q =
+        let other : length path + 1 < m = omega (arith, eqb-false (length (path ++ (w ∷ []))) m q, length-append path (w ∷ [])) in
+        rw (p .other other, count) (none-yet (after-set path kept w (omega arith) e))
+shows-reach m budget w {path} {n′} {state′} (one-build {n} {first = kept}) h lt all inside p =
+    rw (lt-leb budget n lt) (go (eqb (length (path ++ (w ∷ []))) m) refl)
+  where
+    count : n′ ≡ suc n
+    count = p .count ∙ add-one n
+
+    go : (t : Bool) → eqb (length (path ++ (w ∷ []))) m ≡ t
+        → Shows (path ++ (w ∷ [])) n′ state′ kept (cond t (two kept (suc n)) (one kept (suc n)))
+    go true q =
+        let last : length path + 1 ≡ m = omega (arith, eqb-true (length (path ++ (w ∷ []))) m q, length-append path (w ∷ [])) in
+        rw (p .last last, count) two-builds
+    go false q =
+        let other : length path + 1 < m = omega (arith, eqb-false (length (path ++ (w ∷ []))) m q, length-append path (w ∷ [])) in
+        rw (p .other other, count) one-build
+shows-reach m budget w two-builds h lt all inside p = absurd (omega arith)
+shows-reach m budget w stopped h lt all inside p = absurd (omega arith)

@@ -1,0 +1,214 @@
+// The walk on span cards, over lists of words and places and lent tables.
+ghost use mathlib.Core.Path.{_≡_};
+ghost use mathlib.Core.Bool.{cond};
+ghost use Prim.Native.Nat.{_<_};
+ghost use lib.Dec.{eqb};
+ghost use lib.ListN.{length, getD, set};
+ghost use Rattle.walk.specs.Steps.{canTry, isDue, Listed, Opened, Next, Placed};
+ghost use Rattle.walk.specs.Going.{Ready, Went};
+
+// How far a walk has come: the placements made, and the builds that are complete, or 3 where the budget is spent.
+pub struct Tally {
+    pub placed: u32,
+    pub state: u32,
+}
+
+// The slots from lo up to hi.
+struct Slots {
+    lo: usize,
+    hi: usize,
+}
+
+// What no word is.
+const NO_WORD: u32 = 4294967295;
+// The state in which the budget is spent.
+const SPENT: u32 = 3;
+
+// Entry number k of a list.
+fn at16(s: &[u16], k: usize) -> usize
+    requires { ⌜ k < length (now s) ⌝ }
+    ensures { λ r. ⌜ r ≡ getD (now (s .entry)) k 0 ⌝ }
+{
+    s[k] as usize
+}
+
+// Where list number k begins.
+fn start_of(s: &[u32], k: usize) -> usize
+    requires { ⌜ k < length (now s) ⌝ }
+    ensures { λ r. ⌜ r ≡ getD (now (s .entry)) k 0 ⌝ }
+{
+    s[k] as usize
+}
+
+// Whether the entry e can be tried at the place i, where `tried` was the last word tried.
+fn can_try(words: &[u32], marks: &[u8], e: usize, i: usize, want: u32, tried: u32) -> bool
+    requires { ⌜ (e < length (now words)) × (e < length (now marks)) ⌝ }
+    ensures { λ r. ⌜ r ≡ canTry (now (words .entry)) (now (marks .entry)) i want tried e ⌝ }
+{
+    if marks[e] != 0 {
+        return false;
+    }
+    let w = words[e];
+    if w == tried {
+        return false;
+    }
+    if i == 0 {
+        return true;
+    }
+    w / 4 == want
+}
+
+// Whether the entry e is left and ends at i.
+fn is_due(twos: &[u16], marks: &[u8], e: usize, i: usize) -> bool
+    requires { ⌜ (e < length (now twos)) × (e < length (now marks)) ⌝ }
+    ensures { λ r. ⌜ r ≡ isDue (now (twos .entry)) (now (marks .entry)) i e ⌝ }
+{
+    if marks[e] != 0 {
+        return false;
+    }
+    at16(twos, e) == i
+}
+
+// Of the slots lo to hi those that may be tried at i: all, the one whose entry ends at i, or none where several end there.
+fn due(slots: &[u16], twos: &[u16], marks: &[u8], lo: usize, hi: usize, i: usize) -> Slots
+    requires { ⌜ Listed (now slots) lo hi (length (now twos)) ⌝ }
+    requires { ⌜ length (now marks) ≡ length (now twos) ⌝ }
+    ensures { λ r. ⌜ Opened (now (slots .entry)) (now (twos .entry)) (now (marks .entry)) i lo hi (r .lo) (r .hi) ⌝ }
+{
+    let mut the = hi;
+    let mut k = lo;
+    while k < hi {
+        if is_due(twos, marks, at16(slots, k), i) {
+            if the < hi {
+                return Slots { lo: hi, hi };
+            }
+            the = k;
+        }
+        k += 1;
+    }
+    if the < hi {
+        Slots {
+            lo: the,
+            hi: the + 1,
+        }
+    } else {
+        Slots { lo, hi }
+    }
+}
+
+// The first slot from `from` on, before hi, whose entry can be tried; hi or more where there is none.
+fn next(
+    slots: &[u16],
+    words: &[u32],
+    marks: &[u8],
+    from: usize,
+    hi: usize,
+    i: usize,
+    want: u32,
+    tried: u32,
+) -> usize
+    requires { ⌜ Listed (now slots) from hi (length (now words)) ⌝ }
+    requires { ⌜ length (now marks) ≡ length (now words) ⌝ }
+    ensures { λ r. ⌜ Next (now (slots .entry)) (now (words .entry)) (now (marks .entry)) i want tried from hi r ⌝ }
+{
+    let mut k = from;
+    while k < hi {
+        if can_try(words, marks, at16(slots, k), i, want, tried) {
+            return k;
+        }
+        k += 1;
+    }
+    k
+}
+
+// The word w stands at the place i: it is kept while no build is complete.
+fn keep_word(first: &mut [u32], i: usize, w: u32, state: u32)
+    requires { ⌜ i < length (now first) ⌝ }
+    ensures { λ _. ⌜ now (first .exit) ≡ cond (eqb state 0) (set (now (first .entry)) i w) (now (first .entry)) ⌝ }
+{
+    if state == 0 {
+        first[i] = w;
+    }
+}
+
+// A placement at the place i of m: it is counted, and at the last place it completes a build.
+fn placed_at(i: usize, m: usize, t: Tally) -> Tally
+    requires { ⌜ (i < m) × (t .placed < 4294967295) × (t .state < 2) ⌝ }
+    ensures { λ r. ⌜ Placed i m (t .placed) (t .state) (r .placed) (r .state) ⌝ }
+{
+    if i + 1 == m {
+        Tally {
+            placed: t.placed + 1,
+            state: t.state + 1,
+        }
+    } else {
+        Tally {
+            placed: t.placed + 1,
+            state: t.state,
+        }
+    }
+}
+
+// The walk from the place i on, where the marks say which entries are placed; `want` are the last letters of the word before. The number of
+// unplaced entries falls at each placement.
+fn walk_from(
+    starts: &[u32],
+    slots: &[u16],
+    words: &[u32],
+    twos: &[u16],
+    marks: &mut [u8],
+    first: &mut [u32],
+    i: usize,
+    want: u32,
+    mask: u32,
+    budget: u32,
+    t: Tally,
+) -> Tally
+    requires { ⌜ Ready (now words) (now twos) (now starts) (now slots) (now marks) (now first) i (t .placed) (t .state) budget ⌝ }
+    ensures { λ r. ⌜
+        Went (now (words .entry)) (now (twos .entry)) (now (starts .entry)) (now (slots .entry)) (now (marks .entry)) (now (first .entry))
+        (now (marks .exit)) (now (first .exit)) mask i want budget (t .placed) (t .state) (r .placed) (r .state)
+        ⌝ }
+{
+    if i == words.len() {
+        return t;
+    }
+    let lo = start_of(starts, i);
+    let end = start_of(starts, i + 1);
+    let open = due(slots, twos, marks, lo, end, i);
+    let hi = open.hi;
+    let mut acc = t;
+    let mut k = next(slots, words, marks, open.lo, hi, i, want, NO_WORD);
+    while k < hi {
+        if acc.placed == budget {
+            return Tally {
+                placed: budget,
+                state: SPENT,
+            };
+        }
+        let e = at16(slots, k);
+        let w = words[e];
+        marks[e] = 1;
+        keep_word(first, i, w, acc.state);
+        acc = placed_at(i, words.len(), acc);
+        acc = walk_from(
+            starts,
+            slots,
+            words,
+            twos,
+            marks,
+            first,
+            i + 1,
+            w & mask,
+            mask,
+            budget,
+            acc,
+        );
+        marks[e] = 0;
+        if acc.state >= 2 {
+            return acc;
+        }
+        k = next(slots, words, marks, k + 1, hi, i, want, w);
+    }
+    acc
+}
