@@ -1,0 +1,7 @@
+-- `PartLaws` is of a list's parts, `CountLaws` of how many pass a test, `KeyLaws` of counting keys, `SpreadLaws` of spreading
+-- entries over keys, `EntryLaws` of one entry's turn.
+pub mod PartLaws
+pub mod CountLaws
+pub mod KeyLaws
+pub mod SpreadLaws
+pub mod EntryLaws
