@@ -1,4 +1,6 @@
--- `Spans` is what lists the walk takes, `Prepared` the tables that it reads, `Spread` how entries are spread over keys.
+-- `Spans` is what lists the walk takes, `Prepared` the tables that it reads, `Spread` how entries are spread over keys, `Order` how they are
+-- sorted.
 pub mod Spans
 pub mod Prepared
 pub mod Spread
+pub mod Order
