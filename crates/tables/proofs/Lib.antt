@@ -7,3 +7,4 @@ pub mod SpreadLaws
 pub mod EntryLaws
 pub mod OrderLaws
 pub mod SortLaws
+pub mod PreparedLaws
