@@ -161,7 +161,7 @@ fn places_hold(kind: usize, m: usize, one: u16, two: u16) -> bool
 }
 
 // How many words of l letters there are.
-fn words_of(l: usize) -> u32
+pub fn words_of(l: usize) -> u32
     requires { ⌜ l ≤ mostLength ⌝ }
     ensures { λ r. ⌜ r ≡ 4 ^ l ⌝ }
 {
