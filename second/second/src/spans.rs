@@ -6,7 +6,7 @@
 use crate::cards::Random;
 use crate::entry::Stored;
 use crate::lists::{damage, Lists};
-use crate::numbers::{SPAN, SPAN_WIDTH};
+use crate::numbers::{MOST_ENTRIES, MOST_LETTERS, SPAN, SPAN_WIDTH};
 
 /// A sequence with m words of l letters; its letters are the first of A, C, G, T.
 pub fn sequence(random: &mut Random, l: usize, m: usize, letters: usize) -> Vec<u32> {
@@ -73,23 +73,26 @@ pub fn perhaps_without(random: &mut Random, l: usize, m: usize, letters: usize) 
     lists
 }
 
-/// Any lists for the walk: most have a build, some were changed, and some are damaged.
+/// Lists of these words in random order, every span as wide as it may be.
+pub fn widest(random: &mut Random, l: usize, words: &[u32]) -> Lists {
+    let width = usize::from(SPAN_WIDTH);
+    let mut lists = around(random, l, words, width, width);
+    shuffle(random, &mut lists);
+    lists
+}
+
+/// The words of a sequence, of which one is drawn anew, as if it had been misread.
+pub fn misread(random: &mut Random, l: usize, m: usize, letters: usize) -> Vec<u32> {
+    let mut words = words_in(&sequence(random, l, m, letters), l);
+    words[random.below(m)] = random.below(1 << (2 * l)) as u32;
+    words
+}
+
+/// Any lists for the walk: most have a build, some take many placements, and some are damaged.
 pub fn any_spans(random: &mut Random) -> Lists {
-    let l = match random.below(8) {
-        0..=5 => random.between(2, 4),
-        _ => random.between(5, 12),
-    };
-    let m = match random.below(64) {
-        0 => random.between(120, 504),
-        1..=5 => random.between(25, 120),
-        6..=20 => random.between(10, 24),
-        _ => random.between(1, 9),
-    };
-    let letters = random.between(1, 4);
-    let wide = random.between(1, usize::from(SPAN_WIDTH));
-    let mut lists = match random.below(8) {
-        0..=4 => with_build(random, l, m, letters, wide),
-        _ => perhaps_without(random, l, m, letters),
+    let mut lists = match random.below(4) {
+        0 => any_widest(random),
+        _ => any_sound_spans(random),
     };
     if random.once_in(6) {
         for _ in 0..random.between(1, 3) {
@@ -97,6 +100,38 @@ pub fn any_spans(random: &mut Random) -> Lists {
         }
     }
     lists
+}
+
+/// Lists of few different words in the widest spans, of which half have a word that was misread.
+fn any_widest(random: &mut Random) -> Lists {
+    let l = random.between(2, 3);
+    let m = random.between(6, 30);
+    let letters = random.between(2, 3);
+    let words = match random.below(2) {
+        0 => words_in(&sequence(random, l, m, letters), l),
+        _ => misread(random, l, m, letters),
+    };
+    widest(random, l, &words)
+}
+
+/// Sound lists of any l and m, most of few entries, in spans of any width.
+fn any_sound_spans(random: &mut Random) -> Lists {
+    let l = match random.below(8) {
+        0..=5 => random.between(2, 4),
+        _ => random.between(5, usize::from(MOST_LETTERS)),
+    };
+    let m = match random.below(64) {
+        0 => random.between(120, usize::from(MOST_ENTRIES)),
+        1..=5 => random.between(25, 120),
+        6..=20 => random.between(10, 24),
+        _ => random.between(1, 9),
+    };
+    let letters = random.between(1, 4);
+    let wide = random.between(1, usize::from(SPAN_WIDTH));
+    match random.below(8) {
+        0..=4 => with_build(random, l, m, letters, wide),
+        _ => perhaps_without(random, l, m, letters),
+    }
 }
 
 /// Any room for the words of a build: mostly as many slots as there are words, or one beside it.

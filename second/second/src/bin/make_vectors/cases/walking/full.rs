@@ -1,7 +1,7 @@
 //! Long span cards, up to the full 504 entries.
 
 use second::lists::Lists;
-use second::spans::{around, sequence, shuffle, with_build, words_in};
+use second::spans::{around, sequence, shuffle, widest, with_build, words_in};
 use second::walk::{Verdict, Walked};
 
 use crate::cases::Cases;
@@ -61,7 +61,7 @@ impl Cases {
             (12, FULL),
         ] {
             let words = words_in(&sequence(&mut self.random, l, m, 4), l);
-            let lists = self.eight_wide(l, &words);
+            let lists = widest(&mut self.random, l, &words);
             let verdict = self.around_its_own_count(&lists, 20_000);
             assert_ne!(verdict, Verdict::None, "lists that have a build");
         }

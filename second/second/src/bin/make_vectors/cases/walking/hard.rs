@@ -1,7 +1,7 @@
 //! Span cards that take many placements: wide spans, and few different words.
 
 use second::lists::Lists;
-use second::spans::{around, sequence, shuffle, words_in};
+use second::spans::{misread, sequence, widest, words_in};
 use second::walk::Verdict;
 
 use crate::cases::Cases;
@@ -37,12 +37,11 @@ impl Cases {
     /// Draws a card until its walk takes this many placements or more, and records it if one comes.
     fn hard_walk(&mut self, (l, m, letters, wanted): Draw, low: u32) {
         for _draw in 0..400 {
-            let mut words = words_in(&sequence(&mut self.random, l, m, letters), l);
-            if wanted == Verdict::None {
-                let i = self.random.below(m);
-                words[i] = self.random.below(1 << (2 * l)) as u32;
-            }
-            let lists = self.eight_wide(l, &words);
+            let words = match wanted {
+                Verdict::None => misread(&mut self.random, l, m, letters),
+                _ => words_in(&sequence(&mut self.random, l, m, letters), l),
+            };
+            let lists = widest(&mut self.random, l, &words);
             let (answer, _) = walk(&lists, 10 * low, m);
             let walked = answer.expect("lists that are sound");
             if walked.verdict == wanted && walked.placements >= low {
@@ -67,19 +66,12 @@ impl Cases {
         loop {
             let mut words = words_in(&sequence(&mut self.random, l, m, 2), l);
             words[m - 1] = (1 << (2 * l)) - 1;
-            let lists = self.eight_wide(l, &words);
+            let lists = widest(&mut self.random, l, &words);
             let (answer, _) = walk(&lists, MOST_PLACEMENTS, m);
             let walked = answer.expect("lists that are sound");
             if walked.verdict == Verdict::Unsettled {
                 return lists;
             }
         }
-    }
-
-    /// Lists of these words in random order, with every span eight wide.
-    pub(super) fn eight_wide(&mut self, l: usize, words: &[u32]) -> Lists {
-        let mut lists = around(&mut self.random, l, words, 8, 8);
-        shuffle(&mut self.random, &mut lists);
-        lists
     }
 }

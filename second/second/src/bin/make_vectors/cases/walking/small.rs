@@ -1,6 +1,6 @@
 //! Small span cards, most with many equal words.
 
-use second::spans::{perhaps_without, sequence, with_build, words_in};
+use second::spans::{perhaps_without, sequence, widest, with_build, words_in};
 use second::walk::Verdict;
 
 use crate::cases::Cases;
@@ -22,7 +22,7 @@ impl Cases {
                 let lists = perhaps_without(&mut self.random, l, m, 2);
                 _ = self.around_its_own_count(&lists, MOST);
                 let words = words_in(&sequence(&mut self.random, l, m, 2), l);
-                let lists = self.eight_wide(l, &words);
+                let lists = widest(&mut self.random, l, &words);
                 _ = self.around_its_own_count(&lists, MOST);
             }
         }
