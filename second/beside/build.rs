@@ -1,4 +1,13 @@
-//! Finds the archive of the compiled library: BELFRYMIST_LIB names its folder.
+//! Finds the archive of the compiled library, and compiles the walk in plain C.
+//!
+//! BELFRYMIST_LIB names the folder of the archive. CC and AR name the compiler
+//! and the archiver, where these are not gcc and ar.
+
+use std::path::{Path, PathBuf};
+use std::process::Command;
+
+/// The folder of the C sources.
+const SOURCES: &str = "../c";
 
 fn main() {
     println!("cargo:rerun-if-changed=build.rs");
@@ -9,7 +18,45 @@ fn main() {
             println!("cargo:rustc-link-search=native={folder}");
             println!("cargo:rustc-link-lib=static=firmware");
         }
-        // Without the archive the package can still be checked, but not linked.
-        Err(_) => println!("cargo:warning=BELFRYMIST_LIB is not set, so nothing can be linked"),
+        // Without the archive the package can still be checked and its library tested.
+        Err(_) => println!("cargo:warning=BELFRYMIST_LIB is not set, so no program can be linked"),
+    }
+    println!("cargo:rerun-if-changed={SOURCES}");
+    println!("cargo:rerun-if-env-changed=CC");
+    println!("cargo:rerun-if-env-changed=AR");
+    // Only `bench` and the test of the C walk want it.
+    if let Err(what) = compile() {
+        println!("cargo:warning=the C walk cannot be linked: {what}");
+    }
+}
+
+/// Compiles the C walk into an archive that is linked where it is called.
+fn compile() -> Result<(), String> {
+    let folder = std::env::var("OUT_DIR").map_err(|error| error.to_string())?;
+    let folder = PathBuf::from(folder);
+    let object = folder.join("walk.o");
+    let archive = folder.join("libplainwalk.a");
+    let source = Path::new(SOURCES).join("walk.c");
+    let mut compiler = Command::new(named("CC", "gcc"));
+    compiler.args(["-O3", "-std=c11", "-Wall", "-Wextra", "-fPIE", "-c"]);
+    run(compiler.arg(source).arg("-o").arg(&object))?;
+    let mut archiver = Command::new(named("AR", "ar"));
+    run(archiver.arg("crs").arg(&archive).arg(&object))?;
+    println!("cargo:rustc-link-search=native={}", folder.display());
+    println!("cargo:rustc-link-lib=static=plainwalk");
+    Ok(())
+}
+
+/// The tool that the environment names, or the one that is common.
+fn named(variable: &str, common: &str) -> String {
+    std::env::var(variable).unwrap_or_else(|_| common.to_string())
+}
+
+/// Runs a tool to its end.
+fn run(tool: &mut Command) -> Result<(), String> {
+    match tool.status() {
+        Ok(status) if status.success() => Ok(()),
+        Ok(status) => Err(format!("{tool:?} ended with {status}")),
+        Err(error) => Err(format!("{tool:?}: {error}")),
     }
 }

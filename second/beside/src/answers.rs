@@ -88,3 +88,17 @@ pub struct WriteAnswer {
     /// The card's length in bytes.
     pub length: usize,
 }
+
+/// What the walk answers; all fields but number and place are 0 where it is refused.
+#[repr(C)]
+#[derive(Clone, Copy, Debug, Default, PartialEq, Eq)]
+pub struct WalkAnswer {
+    /// The refusal's number, or 0.
+    pub number: usize,
+    /// The refusal's place, or 0.
+    pub place: usize,
+    /// 1 for Sole, 2 for Several, 3 for None, 4 for Unsettled.
+    pub verdict: usize,
+    /// The placements up to the verdict, or the budget where it is Unsettled.
+    pub placements: usize,
+}

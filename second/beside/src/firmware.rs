@@ -1,11 +1,11 @@
 //! The compiled library, called through C.
 
-use crate::answers::{Admitted, EntryAnswer, Held, Part, StepAnswer, WriteAnswer};
+use crate::answers::{Admitted, EntryAnswer, Held, Part, StepAnswer, WalkAnswer, WriteAnswer};
 
 /// The functions as C declares them.
 #[cfg(target_arch = "x86_64")]
 mod exported {
-    use super::{Admitted, EntryAnswer, Held, Part, StepAnswer, WriteAnswer};
+    use super::{Admitted, EntryAnswer, Held, Part, StepAnswer, WalkAnswer, WriteAnswer};
 
     extern "C" {
         pub fn belfrymist_admit(card: *const u8, len: usize) -> Admitted;
@@ -25,6 +25,18 @@ mod exported {
             out: *mut u8,
             out_len: usize,
         ) -> WriteAnswer;
+        pub fn belfrymist_walk(
+            l: usize,
+            words: *const u32,
+            words_len: usize,
+            ones: *const u16,
+            ones_len: usize,
+            twos: *const u16,
+            twos_len: usize,
+            budget: u32,
+            out: *mut u32,
+            out_len: usize,
+        ) -> WalkAnswer;
     }
 }
 
@@ -34,10 +46,10 @@ mod exported {
 /// the caller hands over the place of the answer as a first argument.
 #[cfg(not(target_arch = "x86_64"))]
 mod exported {
-    use super::{Admitted, EntryAnswer, Held, Part, StepAnswer, WriteAnswer};
+    use super::{Admitted, EntryAnswer, Held, Part, StepAnswer, WalkAnswer, WriteAnswer};
 
     mod placed {
-        use super::{Admitted, EntryAnswer, StepAnswer, WriteAnswer};
+        use super::{Admitted, EntryAnswer, StepAnswer, WalkAnswer, WriteAnswer};
 
         extern "C" {
             pub fn belfrymist_admit(answer: *mut Admitted, card: *const u8, len: usize);
@@ -59,6 +71,19 @@ mod exported {
                 twos: *const u16,
                 twos_len: usize,
                 out: *mut u8,
+                out_len: usize,
+            );
+            pub fn belfrymist_walk(
+                answer: *mut WalkAnswer,
+                l: usize,
+                words: *const u32,
+                words_len: usize,
+                ones: *const u16,
+                ones_len: usize,
+                twos: *const u16,
+                twos_len: usize,
+                budget: u32,
+                out: *mut u32,
                 out_len: usize,
             );
         }
@@ -117,11 +142,42 @@ mod exported {
         );
         answer
     }
+
+    // The arguments are those of the function as C declares it.
+    #[allow(clippy::too_many_arguments)]
+    pub unsafe fn belfrymist_walk(
+        l: usize,
+        words: *const u32,
+        words_len: usize,
+        ones: *const u16,
+        ones_len: usize,
+        twos: *const u16,
+        twos_len: usize,
+        budget: u32,
+        out: *mut u32,
+        out_len: usize,
+    ) -> WalkAnswer {
+        let mut answer = WalkAnswer::default();
+        placed::belfrymist_walk(
+            &mut answer,
+            l,
+            words,
+            words_len,
+            ones,
+            ones_len,
+            twos,
+            twos_len,
+            budget,
+            out,
+            out_len,
+        );
+        answer
+    }
 }
 
 use exported::{
     belfrymist_admit, belfrymist_companion, belfrymist_entry, belfrymist_fetch, belfrymist_step,
-    belfrymist_write,
+    belfrymist_walk, belfrymist_write,
 };
 
 /// Admits the card.
@@ -177,6 +233,32 @@ pub fn write(
             ones.len(),
             twos.as_ptr(),
             twos.len(),
+            out.as_mut_ptr(),
+            out.len(),
+        )
+    }
+}
+
+/// Walks over the span card whose entries stand in three lists.
+pub fn walk(
+    l: usize,
+    words: &[u32],
+    ones: &[u16],
+    twos: &[u16],
+    budget: u32,
+    out: &mut [u32],
+) -> WalkAnswer {
+    // SAFETY: as for `write`.
+    unsafe {
+        belfrymist_walk(
+            l,
+            words.as_ptr(),
+            words.len(),
+            ones.as_ptr(),
+            ones.len(),
+            twos.as_ptr(),
+            twos.len(),
+            budget,
             out.as_mut_ptr(),
             out.len(),
         )

@@ -2,11 +2,13 @@
 
 use second::block;
 use second::entry::{Entry, Places};
+use second::lists::Lists;
 use second::reader::{self, Head};
 use second::refusal::Refusal;
+use second::walk::{self, Verdict, Walked};
 use second::writer;
 
-use crate::answers::{Admitted, EntryAnswer, Held, Part, StepAnswer, WriteAnswer};
+use crate::answers::{Admitted, EntryAnswer, Held, Part, StepAnswer, WalkAnswer, WriteAnswer};
 
 /// Admits the card.
 pub fn admit(card: &[u8]) -> Admitted {
@@ -123,6 +125,57 @@ pub fn write(
                 ..WriteAnswer::default()
             }
         }
+    }
+}
+
+/// Walks over the span card whose entries stand in three lists.
+pub fn walk(
+    l: usize,
+    words: &[u32],
+    ones: &[u16],
+    twos: &[u16],
+    budget: u32,
+    out: &mut [u32],
+) -> WalkAnswer {
+    match walk::walk(l, words, ones, twos, budget, out) {
+        Ok(Walked {
+            verdict,
+            placements,
+        }) => WalkAnswer {
+            verdict: verdict_number(verdict),
+            placements: placements as usize,
+            ..WalkAnswer::default()
+        },
+        Err(refusal) => {
+            let (number, place) = number_and_place(refusal);
+            WalkAnswer {
+                number,
+                place,
+                ..WalkAnswer::default()
+            }
+        }
+    }
+}
+
+/// The same, with the lists as they were drawn.
+pub fn walk_lists(lists: &Lists, budget: u32, out: &mut [u32]) -> WalkAnswer {
+    let Lists {
+        l,
+        words,
+        ones,
+        twos,
+        ..
+    } = lists;
+    walk(*l, words, ones, twos, budget, out)
+}
+
+/// The number of a verdict.
+fn verdict_number(verdict: Verdict) -> usize {
+    match verdict {
+        Verdict::Sole => 1,
+        Verdict::Several => 2,
+        Verdict::None => 3,
+        Verdict::Unsettled => 4,
     }
 }
 

@@ -1,4 +1,4 @@
-//! What the writer is given, for tests: sound and damaged lists, drawn from a seed.
+//! What the writer and the walk are given, for tests: sound and damaged lists, drawn from a seed.
 //!
 //! Nothing here judges the lists: damage may by chance leave them sound.
 
@@ -10,12 +10,13 @@ use crate::numbers::{
 use crate::profile::Kind;
 use crate::reader;
 use crate::refusal::Refusal;
+use crate::walk::{self, Walked};
 use crate::writer;
 
 /// The most elements of a list that is drawn.
 pub const LONGEST_LIST: u16 = 600;
 
-/// What the writer is given, sound or not.
+/// What the writer or the walk is given, sound or not.
 #[derive(Clone, Debug, PartialEq, Eq)]
 pub struct Lists {
     /// The kind's number.
@@ -128,6 +129,18 @@ impl Lists {
     /// Has the writer write them.
     pub fn write(&self, out: &mut [u8]) -> Result<usize, Refusal> {
         writer::write(self.kind, self.l, &self.words, &self.ones, &self.twos, out)
+    }
+
+    /// Has the walk go over them as span lists, whatever their kind.
+    pub fn walk(&self, budget: u32, out: &mut [u32]) -> Result<Walked, Refusal> {
+        let Lists {
+            l,
+            words,
+            ones,
+            twos,
+            ..
+        } = self;
+        walk::walk(*l, words, ones, twos, budget, out)
     }
 }
 

@@ -28,7 +28,7 @@ pub enum Reason {
     Places = 11,
     /// A lent output is too short.
     Room = 12,
-    /// The writer's three lists differ in length.
+    /// The three lists differ in length.
     Lists = 13,
     /// There is no such block or entry.
     Absent = 14,

@@ -2,10 +2,11 @@
 
 use crate::block::{self, Block};
 use crate::entry::Stored;
+use crate::given::Given;
 use crate::numbers::{
     BLOCK, COUNT, ENTRIES_PER_BLOCK, ENTRY, FORM, HEAD_SPARE, KIND, THE_FORM, WORD_LENGTH,
 };
-use crate::profile::{self, Kind, Profile};
+use crate::profile::{Kind, Profile};
 use crate::refusal::{Reason, Refusal};
 
 /// Writes the card of this kind and l whose entries stand in three lists, and answers its length.
@@ -23,19 +24,10 @@ pub fn write(
     out: &mut [u8],
 ) -> Result<usize, Refusal> {
     let kind = Kind::of_number(kind)?;
-    let l = profile::letters(l)?;
-    if words.len() != ones.len() || words.len() != twos.len() {
-        return Err(Reason::Lists.at(0));
-    }
-    let m = profile::count(words.len())?;
-    let profile = Profile { kind, l, m };
-    let lists = words.iter().zip(ones).zip(twos);
-    let entries = lists.map(|((&word, &one), &two)| Stored { word, one, two });
-    for (i, stored) in entries.clone().enumerate() {
-        stored.entry(&profile).map_err(|reason| reason.at(i))?;
-    }
+    let given = Given { words, ones, twos };
+    let profile = given.profile(kind, l)?;
     let card = out.get_mut(..profile.size()).ok_or(Reason::Room.at(0))?;
-    put_card(&profile, entries, card);
+    put_card(&profile, given.entries(), card);
     Ok(card.len())
 }
 

@@ -4,7 +4,9 @@
 //! from the seed. It stops at the first difference with exit status 1.
 
 mod lent;
+mod lists;
 mod reading;
+mod walking;
 mod writing;
 
 use std::fmt::Debug;
@@ -40,6 +42,7 @@ impl Comparison {
             self.read(&mut random, &lent)?;
             self.round(&mut random, &lent)?;
             self.write(&mut random)?;
+            self.walk(&mut random)?;
         }
         Ok(())
     }

@@ -1,7 +1,5 @@
 //! Calls that write a card.
 
-use std::fmt::Debug;
-
 use beside::answers::WriteAnswer;
 use beside::{firmware, independent};
 use second::cards::Random;
@@ -9,68 +7,12 @@ use second::lists::{any_lists, any_room, Lists};
 use second::numbers::BLOCK;
 use second::profile::Kind;
 
-use crate::lent::{Element, Lent};
+use crate::lent::Lent;
+use crate::lists::LentLists;
 use crate::{difference, hex, Comparison};
 
 /// The writing calls for each card that is read.
 const CALLS_PER_CARD: usize = 6;
-
-/// The three lists, lent to a call.
-struct LentLists {
-    kind: usize,
-    l: usize,
-    words: Lent<u32>,
-    ones: Lent<u16>,
-    twos: Lent<u16>,
-}
-
-impl LentLists {
-    /// Lends a copy of each of these lists.
-    fn new(random: &mut Random, lists: &Lists) -> LentLists {
-        LentLists {
-            kind: lists.kind,
-            l: lists.l,
-            words: Lent::new(random, &lists.words),
-            ones: Lent::new(random, &lists.ones),
-            twos: Lent::new(random, &lists.twos),
-        }
-    }
-
-    /// Has the library write them.
-    fn write(&self, out: &mut [u8]) -> WriteAnswer {
-        firmware::write(
-            self.kind,
-            self.l,
-            self.words.elements(),
-            self.ones.elements(),
-            self.twos.elements(),
-            out,
-        )
-    }
-
-    /// Says which element of a list the call changed, if there is one.
-    fn changed(&self) -> Option<String> {
-        let words = self.words.differs().map(|at| ("words", at));
-        let ones = self.ones.differs().map(|at| ("places one", at));
-        let twos = self.twos.differs().map(|at| ("places two", at));
-        let (list, at) = words.or(ones).or(twos)?;
-        Some(format!(
-            "element {at} of the {list} was changed (guard elements are outside the list)"
-        ))
-    }
-
-    /// The numbers and lists, so that the call can be made again.
-    fn shown(&self) -> String {
-        format!(
-            "kind {}, l {}\nwords {}\nplaces one {}\nplaces two {}",
-            self.kind,
-            self.l,
-            shown(&self.words),
-            shown(&self.ones),
-            shown(&self.twos),
-        )
-    }
-}
 
 impl Comparison {
     /// Makes writing calls on lists of their own.
@@ -148,7 +90,7 @@ impl Comparison {
                 long.push(stored);
             }
             let room = sound.size();
-            self.write_lists(random, &long, room)?;
+            self.both(random, &long, room)?;
             for list in 0..3 {
                 let mut lists = sound.clone();
                 match list {
@@ -156,12 +98,18 @@ impl Comparison {
                     1 => lists.ones.clone_from(&long.ones),
                     _ => lists.twos.clone_from(&long.twos),
                 }
-                self.write_lists(random, &lists, room)?;
+                self.both(random, &lists, room)?;
             }
             long.resize(BEYOND, BEYOND, BEYOND);
-            self.write_lists(random, &long, room)?;
+            self.both(random, &long, room)?;
         }
         Ok(())
+    }
+
+    /// Makes a writing call and a walking call on lists that both must refuse.
+    fn both(&mut self, random: &mut Random, lists: &Lists, room: usize) -> Result<(), String> {
+        self.write_lists(random, lists, room)?;
+        self.walk_lists(random, lists, 1, room)
     }
 }
 
@@ -192,13 +140,4 @@ fn output_differs(out: &Lent<u8>) -> Option<String> {
         hex(out.elements()),
         hex(out.wanted()),
     ))
-}
-
-/// The list as it was before the call; a very long one is cut.
-fn shown<T: Element + Debug>(list: &Lent<T>) -> String {
-    const SHOWN: usize = 600;
-    let list = list.wanted();
-    let more = if list.len() > SHOWN { " and more" } else { "" };
-    let front = &list[..list.len().min(SHOWN)];
-    format!("({} of them) {front:?}{more}", list.len())
 }

@@ -7,6 +7,7 @@
 mod faults;
 mod several;
 mod sound;
+mod walking;
 mod writing;
 
 use second::cards::{any_index, claimed_count, Draft, Random};
@@ -51,6 +52,7 @@ impl Cases {
         cases.many_faults();
         cases.no_cards();
         cases.writing();
+        cases.walking();
         cases.record
     }
 

@@ -30,6 +30,7 @@ fn main() -> ExitCode {
         println!("{name} {} of which {} refused", count.all, count.refused);
     }
     println!("total {}", record.total());
+    println!("placements {}", record.placements());
     ExitCode::SUCCESS
 }
 

@@ -1,25 +1,27 @@
 //! The two files of the vectors as they grow, and the words of each answer.
 
+mod walking;
 mod writing;
 
 use second::block;
 use second::entry::{Entry, Places};
-use second::lists::LONGEST_LIST;
+use second::lists::{Lists, LONGEST_LIST};
 use second::profile::Profile;
 use second::reader::{self, Head};
 use second::refusal::Refusal;
 
+pub use walking::{walk, WalkOutcome, MOST_PLACEMENTS};
 pub use writing::{BYTE_BEFORE, LONGEST_ROOM};
 
 /// The most bytes that a card of the vectors may have.
 const LONGEST_CARD: usize = 6144;
 /// What every slot of the words holds before the call.
-const WORD_BEFORE: u32 = 305_419_896;
+pub const WORD_BEFORE: u32 = 305_419_896;
 /// What every slot of the places holds before the call.
 const PLACE_BEFORE: u16 = 4660;
 
 /// The names of the operations, in the order of their counts.
-const OPERATIONS: [&str; 8] = [
+const OPERATIONS: [&str; 9] = [
     "admit",
     "entry",
     "step",
@@ -28,6 +30,7 @@ const OPERATIONS: [&str; 8] = [
     "lists",
     "write",
     "again",
+    "walk",
 ];
 
 /// How often an operation was recorded.
@@ -46,6 +49,7 @@ pub struct Record {
     stdout: String,
     card: Vec<u8>,
     counts: [Count; OPERATIONS.len()],
+    placements: u64,
 }
 
 impl Record {
@@ -67,6 +71,11 @@ impl Record {
     /// The number of operation records.
     pub fn total(&self) -> usize {
         self.counts.iter().map(|count| count.all).sum()
+    }
+
+    /// The placements of all walks.
+    pub fn placements(&self) -> u64 {
+        self.placements
     }
 
     /// The current card.
@@ -173,6 +182,16 @@ impl Record {
     fn put_index(&mut self, tag: u8, index: u64) {
         self.stdin.push(tag);
         self.stdin.extend_from_slice(&index.to_le_bytes());
+    }
+
+    /// Puts the elements of three lists.
+    fn put_lists(&mut self, lists: &Lists) {
+        for word in &lists.words {
+            self.stdin.extend_from_slice(&word.to_le_bytes());
+        }
+        for place in lists.ones.iter().chain(&lists.twos) {
+            self.stdin.extend_from_slice(&place.to_le_bytes());
+        }
     }
 
     /// Puts an operation's line and counts it.

@@ -13,6 +13,9 @@ use super::sound::small_tables;
 use super::{Cases, KINDS};
 use crate::record::{BYTE_BEFORE, LONGEST_ROOM};
 
+pub(super) use faults::short_lengths;
+pub(super) use orders::{ladder, Fault};
+
 impl Cases {
     /// All cases of the writer.
     pub(super) fn writing(&mut self) {
@@ -126,7 +129,7 @@ impl Cases {
     }
 
     /// Lists whose entries have random words of two letters, and place 0 alone.
-    fn flat_lists(&mut self, kind: Kind, m: usize) -> Lists {
+    pub(super) fn flat_lists(&mut self, kind: Kind, m: usize) -> Lists {
         let two = match kind {
             Kind::Pair => NO_PLACE,
             Kind::Span => 0,

@@ -27,12 +27,7 @@ impl Record {
             self.stdin.extend_from_slice(&(length as u16).to_le_bytes());
         }
         self.put_room(room);
-        for word in &lists.words {
-            self.stdin.extend_from_slice(&word.to_le_bytes());
-        }
-        for place in lists.ones.iter().chain(&lists.twos) {
-            self.stdin.extend_from_slice(&place.to_le_bytes());
-        }
+        self.put_lists(lists);
         let written = write(lists, room);
         self.written_line(6, &written);
         written

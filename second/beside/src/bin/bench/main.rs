@@ -1,11 +1,11 @@
-//! Times the compiled library and the second implementation on the same bytes.
-//!
-//! The two take turns in rounds within one run, so that both meet the same
-//! moods of the machine; the medians over the rounds are printed.
+//! Times the compiled library on the same bytes as the second implementation, and on the same
+//! lists as the walk in plain C.
+
+mod timing;
+mod walking;
 
 use std::hint::black_box;
 use std::process::ExitCode;
-use std::time::{Duration, Instant};
 
 use beside::answers::WriteAnswer;
 use beside::{firmware, independent};
@@ -14,71 +14,19 @@ use second::lists::Lists;
 use second::profile::Kind;
 use second::reader::{self, Head};
 
+use timing::{measure, Operation};
+
 /// The rounds that each side takes.
 const ROUNDS: usize = 41;
-/// The least time that a round is to last.
-const ROUND: Duration = Duration::from_millis(4);
 /// The seed of the cards' entries.
 const SEED: u64 = 1;
-
-/// One operation: its name, and one call on each side.
-struct Operation<'a> {
-    name: String,
-    library: Box<dyn FnMut() + 'a>,
-    second: Box<dyn FnMut() + 'a>,
-}
-
-/// The time that this many calls take.
-fn time(call: &mut dyn FnMut(), calls: u32) -> Duration {
-    let start = Instant::now();
-    for _ in 0..calls {
-        call();
-    }
-    start.elapsed()
-}
-
-/// The number of calls that last at least one round.
-fn calls_per_round(call: &mut dyn FnMut()) -> u32 {
-    let mut calls = 1;
-    while time(call, calls) < ROUND {
-        calls *= 2;
-    }
-    calls
-}
-
-/// The middle one of the times, of which there is an odd number.
-fn median(mut times: Vec<f64>) -> f64 {
-    times.sort_by(f64::total_cmp);
-    times[times.len() / 2]
-}
-
-/// The medians of the nanoseconds per call, of the library and of `second`.
-fn measure(operation: &mut Operation) -> (f64, f64) {
-    let library_calls = calls_per_round(&mut operation.library);
-    let second_calls = calls_per_round(&mut operation.second);
-    let per_call =
-        |call: &mut dyn FnMut(), calls: u32| time(call, calls).as_nanos() as f64 / f64::from(calls);
-    let mut library = Vec::with_capacity(ROUNDS);
-    let mut second = Vec::with_capacity(ROUNDS);
-    for round in 0..ROUNDS {
-        // Each side goes first in every other round.
-        if round % 2 == 0 {
-            library.push(per_call(&mut operation.library, library_calls));
-            second.push(per_call(&mut operation.second, second_calls));
-        } else {
-            second.push(per_call(&mut operation.second, second_calls));
-            library.push(per_call(&mut operation.library, library_calls));
-        }
-    }
-    (median(library), median(second))
-}
 
 /// Admitting this card.
 fn admit<'a>(name: &str, card: &'a [u8]) -> Operation<'a> {
     Operation {
         name: format!("admit {name}"),
         library: Box::new(|| _ = black_box(firmware::admit(black_box(card)))),
-        second: Box::new(|| _ = black_box(reader::admit(black_box(card)))),
+        other: Box::new(|| _ = black_box(reader::admit(black_box(card)))),
     }
 }
 
@@ -87,7 +35,7 @@ fn entry<'a>(name: &str, card: &'a [u8], i: usize) -> Operation<'a> {
     Operation {
         name: format!("entry {i} of {name}"),
         library: Box::new(move || _ = black_box(firmware::entry(black_box(card), black_box(i)))),
-        second: Box::new(move || _ = black_box(reader::entry(black_box(card), black_box(i)))),
+        other: Box::new(move || _ = black_box(reader::entry(black_box(card), black_box(i)))),
     }
 }
 
@@ -96,7 +44,7 @@ fn step<'a>(name: &str, card: &'a [u8], at: usize) -> Operation<'a> {
     Operation {
         name: format!("step {at} of {name}"),
         library: Box::new(move || _ = black_box(firmware::step(black_box(card), black_box(at)))),
-        second: Box::new(move || _ = black_box(black_box(Head { at }).step(black_box(card)))),
+        other: Box::new(move || _ = black_box(black_box(Head { at }).step(black_box(card)))),
     }
 }
 
@@ -110,7 +58,7 @@ fn write<'a>(name: &str, lists: &'a Lists) -> Operation<'a> {
             let out = black_box(&mut for_library);
             _ = black_box(library_write(black_box(lists), out));
         }),
-        second: Box::new(move || {
+        other: Box::new(move || {
             let out = black_box(&mut for_second);
             _ = black_box(black_box(lists).write(out));
         }),
@@ -170,12 +118,13 @@ fn samples() -> Vec<Sample> {
     samples
 }
 
-fn main() -> ExitCode {
+/// Times the calls that read and write, and says whether the two sides agree.
+fn cards() -> bool {
     let samples = samples();
     // A time means nothing where the two do not agree.
     if let Some(sample) = samples.iter().find(|sample| !sample.is_agreed_on()) {
         println!("the two differ on the {}", sample.name);
-        return ExitCode::FAILURE;
+        return false;
     }
     let mut operations: Vec<Operation> = Vec::new();
     for Sample { name, card, .. } in &samples {
@@ -193,12 +142,20 @@ fn main() -> ExitCode {
         "operation", "library, ns", "second, ns", "ratio"
     );
     for operation in &mut operations {
-        let (library, second) = measure(operation);
+        let (library, second) = measure(operation, ROUNDS);
         println!(
             "{:<34} {library:>12.1} {second:>12.1} {:>8.2}",
             operation.name,
             library / second
         );
     }
-    ExitCode::SUCCESS
+    true
+}
+
+fn main() -> ExitCode {
+    if cards() && walking::walks(SEED) {
+        ExitCode::SUCCESS
+    } else {
+        ExitCode::FAILURE
+    }
 }

@@ -1,0 +1,198 @@
+//! The walk over span lists: the rule of the scope document, as it is worded there.
+//!
+//! Every entry is looked at for every place that the walk comes to. Nothing is
+//! sorted or kept beforehand, so that the rule can be read off.
+
+use crate::entry::Stored;
+use crate::given::Given;
+use crate::profile::{Kind, Profile};
+use crate::refusal::{Reason, Refusal};
+
+/// What the walk finds.
+#[derive(Clone, Copy, Debug, PartialEq, Eq)]
+pub enum Verdict {
+    /// There is exactly one build.
+    Sole,
+    /// There are two builds or more.
+    Several,
+    /// There is no build.
+    None,
+    /// The budget does not reach to the verdict.
+    Unsettled,
+}
+
+/// What the walk answers where it is not refused.
+#[derive(Clone, Copy, Debug, PartialEq, Eq)]
+pub struct Walked {
+    /// What was found.
+    pub verdict: Verdict,
+    /// The placements up to the verdict, or the budget where it is Unsettled.
+    pub placements: u32,
+}
+
+/// Walks over the span card whose entries stand in three lists.
+///
+/// Tested are 6, 13, 7, the entries in turn, 10 before 11, and then 12 where
+/// the output has fewer slots than there are entries. For Sole and Several the
+/// words of the alphabetically first build stand at the start of the output,
+/// and later slots are untouched; all other answers touch no slot.
+pub fn walk(
+    l: usize,
+    words: &[u32],
+    ones: &[u16],
+    twos: &[u16],
+    budget: u32,
+    out: &mut [u32],
+) -> Result<Walked, Refusal> {
+    let given = Given { words, ones, twos };
+    let profile = given.profile(Kind::Span, l)?;
+    let out = out.get_mut(..words.len()).ok_or(Reason::Room.at(0))?;
+    let mut walk = Walk::new(&profile, given.entries().collect(), budget);
+    let verdict = match (walk.go_on(), &walk.first) {
+        (Err(Stop::SecondBuild), _) => Verdict::Several,
+        (Err(Stop::Budget), _) => Verdict::Unsettled,
+        (Ok(()), Some(_)) => Verdict::Sole,
+        (Ok(()), None) => Verdict::None,
+    };
+    if let (Verdict::Sole | Verdict::Several, Some(first)) = (verdict, &walk.first) {
+        out.copy_from_slice(first);
+    }
+    Ok(Walked {
+        verdict,
+        placements: walk.placements,
+    })
+}
+
+/// Why a walk ends before it has run out.
+enum Stop {
+    /// A second build was completed.
+    SecondBuild,
+    /// One more placement was called for than the budget allows.
+    Budget,
+}
+
+/// A walk that is under way.
+struct Walk {
+    /// 4^(l−1): what the last l−1 letters of a word are below.
+    tails: u32,
+    /// The entries; place one is the first place of the span and place two the last.
+    entries: Vec<Stored>,
+    /// Whether each entry is used.
+    used: Vec<bool>,
+    /// The words that stand at the places so far.
+    row: Vec<u32>,
+    /// The words of the first build, once it is completed.
+    first: Option<Vec<u32>>,
+    budget: u32,
+    placements: u32,
+}
+
+impl Walk {
+    /// A walk that has placed nothing, over entries that were tested.
+    fn new(profile: &Profile, entries: Vec<Stored>, budget: u32) -> Walk {
+        Walk {
+            tails: 4u32.pow(u32::from(profile.l) - 1),
+            used: vec![false; entries.len()],
+            row: Vec::with_capacity(entries.len()),
+            entries,
+            first: None,
+            budget,
+            placements: 0,
+        }
+    }
+
+    /// Walks over the entries that are left, from the first place where no word stands.
+    fn go_on(&mut self) -> Result<(), Stop> {
+        if self.row.len() == self.entries.len() {
+            return self.complete();
+        }
+        for entry in self.tried() {
+            self.place(entry)?;
+            self.go_on()?;
+            self.take_back(entry);
+        }
+        Ok(())
+    }
+
+    /// Keeps the row as the first build, or stops where there is one already.
+    fn complete(&mut self) -> Result<(), Stop> {
+        if self.first.is_some() {
+            return Err(Stop::SecondBuild);
+        }
+        self.first = Some(self.row.clone());
+        Ok(())
+    }
+
+    /// Places an entry and counts the placement, if the budget allows it.
+    fn place(&mut self, entry: usize) -> Result<(), Stop> {
+        if self.placements == self.budget {
+            return Err(Stop::Budget);
+        }
+        self.placements += 1;
+        self.used[entry] = true;
+        self.row.push(self.entries[entry].word);
+        Ok(())
+    }
+
+    /// Takes back the entry that was placed last.
+    fn take_back(&mut self, entry: usize) {
+        self.row.pop();
+        self.used[entry] = false;
+    }
+
+    /// The entries that are tried at the next place: one for each word, in alphabetical order.
+    fn tried(&self) -> Vec<usize> {
+        let candidates = self.candidates();
+        let ends_first = |&entry: &usize| {
+            let mut equals = candidates
+                .iter()
+                .filter(|&&other| self.entries[other].word == self.entries[entry].word);
+            equals.all(|&other| self.ending(entry) <= self.ending(other))
+        };
+        let mut tried: Vec<usize> = candidates.iter().copied().filter(ends_first).collect();
+        tried.sort_unstable_by_key(|&entry| self.entries[entry].word);
+        tried
+    }
+
+    /// Where an entry ends, and its index, by which equal words are told apart.
+    fn ending(&self, entry: usize) -> (u16, usize) {
+        (self.entries[entry].two, entry)
+    }
+
+    /// The unused entries that may stand at the next place.
+    fn candidates(&self) -> Vec<usize> {
+        let place = self.row.len();
+        let due: Vec<usize> = self
+            .unused()
+            .filter(|&entry| usize::from(self.entries[entry].two) <= place)
+            .collect();
+        self.unused()
+            .filter(|&entry| self.holds(entry, place) && self.overlaps(entry))
+            .filter(|&entry| due.iter().all(|&other| other == entry))
+            .collect()
+    }
+
+    /// The entries that are not used.
+    fn unused(&self) -> impl Iterator<Item = usize> + '_ {
+        (0..self.entries.len()).filter(|&entry| !self.used[entry])
+    }
+
+    /// Says whether an entry's span holds this place.
+    fn holds(&self, entry: usize, place: usize) -> bool {
+        let Stored { one, two, .. } = self.entries[entry];
+        (usize::from(one)..=usize::from(two)).contains(&place)
+    }
+
+    /// Says whether an entry's word begins with the last l−1 letters of the last word.
+    fn overlaps(&self, entry: usize) -> bool {
+        match self.row.last() {
+            None => true,
+            Some(last) => last % self.tails == self.entries[entry].word / 4,
+        }
+    }
+}
+
+#[cfg(test)]
+mod arrangements;
+#[cfg(test)]
+mod tests;
