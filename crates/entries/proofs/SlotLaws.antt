@@ -1,14 +1,14 @@
 -- The laws of slots and their bytes that this crate's proofs and the crates above cite: a slot that was written is read, and the bytes that
 -- were read as a slot are the slot's. Assumes nothing.
-use mathlib.Core.Path.{_≡_, sym, ap, _∙_}
+use mathlib.Core.Path.{_≡_, refl, sym, ap, _∙_}
 use mathlib.Core.List.{List, _++_, append-assoc}
 use Prim.Native.Nat.{ℕ, _+_, _*_, _≤_}
 use native.Mathlib.Omega.{arith}
-use lib.ListN.{length, drop, length-append}
+use lib.ListN.{length, getD, drop, length-append}
 use Rattle.block.specs.Bytes.{twoAt, fourAt, twoBytes, fourBytes, putAt, AreBytes}
 use Rattle.block.proofs.PutLaws.{length-two, length-four, two-read, four-read, two-again, four-again, put-on}
 use Rattle.entries.specs.declared.Slot.{Slot}
-use Rattle.entries.specs.Slot.{entryBytes, slotAt, slotBytes}
+use Rattle.entries.specs.Slot.{entryBytes, slotAt, slotBytes, slotFrom}
 
 pub length-slot : (s : Slot) → length (slotBytes s) ≡ entryBytes
 unfolding slotBytes
@@ -79,3 +79,9 @@ slot-again l j bytes h =
     ∙ ap (λ (xs : List ℕ). word ++ (one ++ xs)) from-two
     ∙ ap (λ (xs : List ℕ). word ++ xs) from-one
     ∙ four-again l at bytes (omega arith)
+
+-- an entry of three lists
+pub slot-from : (words ones twos : List ℕ) (e : ℕ)
+    → slotFrom words ones twos e ≡ record { word = getD words e 0; one = getD ones e 0; two = getD twos e 0 }
+unfolding slotFrom
+slot-from words ones twos e = refl

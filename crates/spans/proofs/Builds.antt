@@ -21,7 +21,7 @@ use Rattle.sequence.specs.Verdict.{Before}
 use Rattle.sequence.proofs.ListLaws.{not-in-nil, in-cons, in-keep, keep-in, rising-keep, length-taken}
 use Rattle.sequence.proofs.ReorderedLaws.{reordered-map, map-reordered, reordered-length}
 use Rattle.spans.specs.Walk.{walked, builds}
-use Rattle.spans.specs.Settling.{spanEntries}
+use Rattle.spans.specs.Settling.{spanEntries, Worded}
 use Rattle.spans.proofs.Feasible.{Allowed, Feasible, stop, step, feasible-length}
 use Rattle.spans.proofs.Tried.{and-both, both-and}
 use Rattle.spans.proofs.Reached.{reached-feasible, feasible-reached, reached-some, walk-rising}
@@ -92,14 +92,18 @@ module _ {l : ℕ} {es : List Slot} where
         b .spelled ∙ ap (λ o. spell l (words o)) (k .2) ∙ ap (spell l) (same-words (k .0)),
       )
 
-  pub complete-build : {ws : List ℕ} → Complete l es ws → Build l (spanEntries es) (spell l ws)
-  complete-build c =
+  pub complete-worded : {ws : List ℕ} → Complete l es ws → Worded l es ws
+  complete-worded c =
       let s = feasible-standing (c .feasible) (c .all) in
       record {
         order = spanEntries (s .0);
         arrangement = record { each = reordered-map (entryOf span) (s .1); standing = s .2 };
-        spelled = ap (spell l) (s .3 ∙ sym (same-words (s .0)));
+        in-order = s .3 ∙ sym (same-words (s .0));
       }
+
+  pub complete-build : {ws : List ℕ} → Complete l es ws → Build l (spanEntries es) (spell l ws)
+  complete-build c =
+      let w = complete-worded c in record { order = w .order; arrangement = w .arrangement; spelled = ap (spell l) (w .in-order) }
 
 -- ---- the builds of the walk
 

@@ -8,13 +8,14 @@ use Prim.Native.Nat.{ℕ, suc, _+_, _≤_, _<_}
 use native.Mathlib.Omega.{arith}
 use lib.ListN.{length}
 use lib.Dec.{eqb, leb}
-use borrow.Author.Tests.{leb-true, leb-false, le-leb, lt-leb}
-use Rattle.sequence.specs.Lists.{In, Rising, keep, numbers}
+use borrow.Author.Tests.{leb-true, leb-false, le-leb, lt-leb, eqb-true}
+use Rattle.sequence.specs.Lists.{In, first, later, Rising, keep, numbers}
 use Rattle.entries.specs.declared.Slot.{Slot}
 use Rattle.spans.specs.Walk.{isCandidate, walk, walked, builds, upTo, placements}
 use Rattle.sequence.specs.Verdict.{Outcome, settled, unsettled}
-use Rattle.spans.specs.Settling.{verdictOn, outcome}
+use Rattle.spans.specs.Settling.{Worded, verdictOn, outcome}
 use Rattle.spans.proofs.Feasible.{Allowed}
+use Rattle.spans.proofs.Builds.{walked-feasible, complete-worded}
 use Rattle.spans.proofs.Order.{Sooner, firsts}
 use Rattle.spans.proofs.Indices.{choiceIn, walk-table}
 use Rattle.spans.specs.Run.{Run, searching, one, two, spent, reach, run, comeTo}
@@ -139,3 +140,43 @@ pub run-answers : (l : ℕ) (es : List Slot) (budget : ℕ)
 unfolding outcome placements builds settle
 run-answers l es budget =
     run-searching l (length es) budget 0 (walked l es) (omega arith) ∙ ap (λ x. settle l (length es) budget x (builds l es)) (omega arith)
+
+-- ---- the build that a run keeps
+
+-- the first build, where there is one, is one of those that are reached
+pub data Keeps (P : List ℕ → Type 0) : Run → Type 0 where
+  keeps-none : {n : ℕ} → Keeps P (searching n)
+  keeps-one : {ws : List ℕ} {n : ℕ} → P ws → Keeps P (one ws n)
+  keeps-two : {ws : List ℕ} {n : ℕ} → P ws → Keeps P (two ws n)
+  keeps-spent : Keeps P spent
+
+reach-keeps : (P : List ℕ → Type 0) (m budget : ℕ) {r : Run} (ws : List ℕ) → (length ws ≡ m → P ws) → Keeps P r → Keeps P (reach m budget r ws)
+unfolding reach
+reach-keeps P m budget ws h (keeps-none {n}) = go (leb budget n) (eqb (length ws) m) refl
+  where
+    go : (s t : Bool) → eqb (length ws) m ≡ t → Keeps P (cond s spent (cond t (one ws (suc n)) (searching (suc n))))
+    go true t e = keeps-spent
+    go false true e = keeps-one (h (eqb-true (length ws) m e))
+    go false false e = keeps-none
+reach-keeps P m budget ws h (keeps-one {ws = vs} {n} p) = go (leb budget n) (eqb (length ws) m)
+  where
+    go : (s t : Bool) → Keeps P (cond s spent (cond t (two vs (suc n)) (one vs (suc n))))
+    go true t = keeps-spent
+    go false true = keeps-two p
+    go false false = keeps-one p
+reach-keeps P m budget ws h (keeps-two p) = keeps-two p
+reach-keeps P m budget ws h keeps-spent = keeps-spent
+
+run-keeps : (P : List ℕ → Type 0) (m budget : ℕ) (reached : List (List ℕ)) {r : Run} → ((ws : List ℕ) → In ws reached → length ws ≡ m → P ws)
+    → Keeps P r
+    → Keeps P (run m budget r reached)
+unfolding run
+run-keeps P m budget [] h k = k
+run-keeps P m budget (ws ∷ reached) h k =
+    run-keeps P m budget reached (λ vs i. h vs (later i)) (reach-keeps P m budget ws (h ws first) k)
+
+-- a run from the start keeps the words of an arrangement
+pub run-worded : (l : ℕ) (es : List Slot) (budget : ℕ) → Keeps (Worded l es) (run (length es) budget (searching 0) (walked l es))
+run-worded l es budget =
+    run-keeps (Worded l es) (length es) budget (walked l es)
+    (λ ws i e. complete-worded (record { feasible = walked-feasible l es i; all = e })) keeps-none

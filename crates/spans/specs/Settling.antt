@@ -1,5 +1,6 @@
 -- What is answered on a span card under a budget, and what it means (01, "The walk on span cards", and demands 2 and 3).
 --   spanEntries es           == the entries of a span card, with their allowed places
+--   Worded l es ws           == ws are the words of an arrangement of the entries, in order
 --   verdictOn l bs           == the verdict by the builds bs in their order
 --   outcome l es budget      == what the walk comes to
 --   Means l es budget o      == the outcome o is true, over all builds
@@ -15,12 +16,18 @@ use Rattle.entries.specs.declared.Slot.{Slot}
 use Rattle.entries.specs.declared.Entry.{Entry}
 use Rattle.entries.specs.Fault.{span}
 use Rattle.entries.specs.Entry.{entryOf}
+use Rattle.sequence.specs.Arrangement.{Arrangement, words}
 use Rattle.sequence.specs.Build.{spell, Build}
 use Rattle.sequence.specs.Verdict.{Verdict, sole, several, noBuild, Tells, Outcome, settled, unsettled, NoLater}
 use Rattle.spans.specs.Walk.{builds, placements}
 
 abbrev pub spanEntries : List Slot → List Entry
 spanEntries es = map (entryOf span) es
+
+pub record Worded (l : ℕ) (es : List Slot) (ws : List ℕ) : Type 0 where
+  pub order : List Entry
+  pub arrangement : Arrangement l (spanEntries es) order
+  pub in-order : ws ≡ words order
 
 abbrev pub verdictOn : ℕ → List (List ℕ) → Verdict
 verdictOn l [] = noBuild

@@ -40,7 +40,7 @@ sooner-apart : (words twos : List ℕ) (j k : ℕ) → Sooner words twos j k →
 sooner-apart words twos j k (inl h) e = omega (arith, ap (λ x. getD words x 0) e)
 sooner-apart words twos j k (inr h) e = ⊎-elim (λ g. omega (arith, ap (λ x. getD twos x 0) e)) (λ g. omega (arith, g .1)) (h .1)
 
-same-or-not : (a b : ℕ) → (a ≡ b) ⊎ (a ≡ b → ⊥)
+pub same-or-not : (a b : ℕ) → (a ≡ b) ⊎ (a ≡ b → ⊥)
 same-or-not a b = go (eqb a b) refl
   where
     go : (t : Bool) → eqb a b ≡ t → (a ≡ b) ⊎ (a ≡ b → ⊥)

@@ -9,3 +9,4 @@ pub mod Candidates
 pub mod RunLaws
 pub mod Turns
 pub mod Held
+pub mod WholeLaws

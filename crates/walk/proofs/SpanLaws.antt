@@ -16,6 +16,10 @@ four-pow : (k : ℕ) → 4 ^ k ≡ 2 ^ (2 * k)
 four-pow zero = refl
 four-pow (suc k) = let h = four-pow k in let e : 2 * suc k ≡ suc (suc (2 * k)) = omega arith in rw e (omega arith)
 
+pub pow-positive : (k : ℕ) → 0 < 4 ^ k
+pow-positive zero = omega arith
+pow-positive (suc k) = let h = pow-positive k in omega arith
+
 module _ {l : ℕ} {words ones twos : List ℕ} (card : Spans l words ones twos) where
   pub spans-rise : (e : ℕ) → e < length words → getD ones e 0 ≤ getD twos e 0
   spans-rise e h = span-is (length words) (getD ones e 0) (getD twos e 0) (card .holds e h) .0

@@ -19,6 +19,8 @@ use lib.ListN.{length, getD}
 use lib.Dec.{eqb, ltb}
 use Rattle.entries.specs.declared.Slot.{Slot}
 use Rattle.sequence.specs.Lists.{keep, numbers}
+use Rattle.walk.specs.declared.Walked.{Walked}
+use Rattle.walk.specs.declared.Walked.the-variants.{Sole, Several, None, Unsettled}
 use Rattle.tables.specs.Prepared.{part}
 
 -- what no word is
@@ -84,3 +86,12 @@ pub record Placed (i m placed state placed′ state′ : ℕ) : Type 0 where
   pub count : placed′ ≡ placed + 1
   pub last : i + 1 ≡ m → state′ ≡ state + 1
   pub other : i + 1 < m → state′ ≡ state
+
+-- what `unmark` promises: each entry is left
+pub record Unmarked (marks : List ℕ) : Type 0 where
+  pub each : (k : ℕ) → k < length marks → isLeft marks k ≡ true
+
+-- what `outcome_of` answers, by the placements and the state
+abbrev pub walkedAt : ℕ → ℕ → ℕ → Walked
+walkedAt budget placed state =
+    cond (eqb state 0) (None placed) (cond (eqb state 1) (Sole placed) (cond (eqb state 2) (Several placed) (Unsettled budget)))

@@ -4,13 +4,24 @@ ghost use mathlib.Core.Bool.{cond};
 ghost use Prim.Native.Nat.{_<_};
 ghost use lib.Dec.{eqb};
 ghost use lib.ListN.{length, getD, set};
-ghost use Rattle.walk.specs.Steps.{canTry, isDue, Listed, Opened, Next, Placed};
+ghost use Rattle.tables.specs.Spans.{Spans};
+ghost use Rattle.tables.specs.Room.{Room};
+ghost use Rattle.walk.specs.Walked.{entriesIn, Walks};
+ghost use Rattle.walk.specs.Steps.{Unmarked, walkedAt, canTry, isDue, Listed, Opened, Next, Placed};
 ghost use Rattle.walk.specs.Going.{Ready, Went};
 
 // How far a walk has come: the placements made, and the builds that are complete, or 3 where the budget is spent.
 pub struct Tally {
     pub placed: u32,
     pub state: u32,
+}
+
+// What a walk comes to, with its placements: one build, several, none, or that it is unsettled.
+pub enum Walked {
+    Sole(u32),
+    Several(u32),
+    None(u32),
+    Unsettled(u32),
 }
 
 // The slots from lo up to hi.
@@ -211,4 +222,79 @@ fn walk_from(
         k = next(slots, words, marks, k + 1, hi, i, want, w);
     }
     acc
+}
+
+// Says of each entry that it is left.
+fn unmark(marks: &mut [u8])
+    ensures { λ _. ⌜ Unmarked (now (marks .exit)) ⌝ }
+{
+    let mut k = 0;
+    while k < marks.len() {
+        marks[k] = 0;
+        k += 1;
+    }
+}
+
+// What a walk that has run out, or stopped, comes to.
+fn outcome_of(t: Tally, budget: u32) -> Walked
+    ensures { λ r. ⌜ r ≡ walkedAt budget (t .placed) (t .state) ⌝ }
+{
+    if t.state == 0 {
+        return Walked::None(t.placed);
+    }
+    if t.state == 1 {
+        return Walked::Sole(t.placed);
+    }
+    if t.state == 2 {
+        return Walked::Several(t.placed);
+    }
+    Walked::Unsettled(budget)
+}
+
+// The walk over lists that the entry rules admit. Where it gives a build, `first` has the words of the alphabetically first one; the other
+// lent lists are its tables, and are left as the walk needs them.
+pub fn walk(
+    l: usize,
+    words: &[u32],
+    ones: &[u16],
+    twos: &[u16],
+    budget: u32,
+    order: &mut [u16],
+    spare: &mut [u16],
+    keys: &mut [u16],
+    starts: &mut [u32],
+    slots: &mut [u16],
+    marks: &mut [u8],
+    first: &mut [u32],
+) -> Walked
+    requires { ⌜ Spans l (now words) (now ones) (now twos) ⌝ }
+    requires { ⌜ Room (length (now words)) (now order) (now spare) (now keys) (now starts) (now slots) ⌝ }
+    requires { ⌜ (length (now marks) ≡ length (now words)) × (length (now first) ≡ length (now words)) ⌝ }
+    ensures { λ r. ⌜
+        Walks l (entriesIn (now (words .entry)) (now (ones .entry)) (now (twos .entry))) budget r (now (first .exit))
+        ⌝ }
+{
+    tables::prepare(l, words, ones, twos, order, spare, keys, starts, slots);
+    unmark(marks);
+    let mask = entries::words_of(l - 1) - 1;
+    let none = Tally {
+        placed: 0,
+        state: 0,
+    };
+    outcome_of(
+        walk_from(
+            starts,
+            slots,
+            words,
+            twos,
+            marks,
+            first,
+            0,
+            0,
+            mask,
+            budget,
+            none,
+        ),
+        budget,
+    )
 }

@@ -1,0 +1,50 @@
+-- `unmark` meets its contract: the loop keeps that the entries before k are left (`Unmarking`), and what is left to clear falls.
+-- Assumes nothing.
+use Prim.Native.Nat.{_-_}
+use native.Mathlib.Omega.{arith}
+use lib.ListN.{length}
+use borrow.Author.Needs.{needs}
+use Rattle.walk.proofs.WholeLaws.{Unmarking, unmarking-none, unmarking-more, unmarking-all}
+use Rattle.walk.proofs.unmark.Statement.{statement}
+use Rattle.walk.proofs.unmark.Tie as tie
+
+abbrev Inv-loop : tie.InvT-loop
+Inv-loop marks₀ k₀ marks k = Unmarking marks₀ marks k
+
+abbrev μ-loop : tie.MeasureT-loop
+μ-loop marks₀ k₀ marks k = length marks₀ - k
+
+loop-holds : tie.Need-loop-holds Inv-loop μ-loop
+loop-holds c = unmarking-none _
+
+slice-write-marks : tie.Need-slice-write-marks Inv-loop μ-loop
+slice-write-marks c = search needs
+
+add-k : tie.Need-add-k Inv-loop μ-loop
+add-k c = search needs
+
+loop-less : tie.Need-loop-less Inv-loop μ-loop
+loop-less c = omega (arith, c .before .loop .inv .all, c .loop-test .taken)
+
+loop-again : tie.Need-loop-again Inv-loop μ-loop
+loop-again c = unmarking-more (c .before .loop .inv) (c .loop-test .taken)
+
+same-length : tie.Need-same-length Inv-loop μ-loop
+same-length c = c .before .loop .inv .all
+
+returns : tie.Need-returns Inv-loop μ-loop
+returns c = unmarking-all (c .before .loop .inv) (c .loop-test .left)
+
+pub unmark-spec : {M : Type 1} → statement M
+unmark-spec =
+    tie.close
+    (tie.spec
+    Inv-loop
+    μ-loop
+    loop-holds
+    slice-write-marks
+    add-k
+    loop-less
+    loop-again
+    same-length
+    returns)

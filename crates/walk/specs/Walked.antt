@@ -1,0 +1,37 @@
+-- What a walk over lists answers, and what that means.
+--   entriesIn words ones twos      == the entries of the lists, in the order of their indices
+--   saysWalked l ws r              == what the enum `Walked` says, where ws are the words that are given with it
+--   GivesBuild r                   == r gives a build
+--   Walks l es budget r ws         == what a walk over the entries es promises
+-- Assumes nothing.
+use mathlib.Core.List.{List}
+use Prim.Native.Nat.{ℕ}
+use lib.ListN.{length}
+use Rattle.answers.specs.Row.{row}
+use Rattle.entries.specs.declared.Slot.{Slot}
+use Rattle.entries.specs.Slot.{slotFrom}
+use Rattle.sequence.specs.Build.{spell}
+use Rattle.sequence.specs.Verdict.{sole, several, noBuild, Outcome, settled, unsettled}
+use Rattle.spans.specs.Settling.{Means, Worded}
+use Rattle.walk.specs.declared.Walked.{Walked}
+use Rattle.walk.specs.declared.Walked.the-variants.{Sole, Several, None, Unsettled}
+
+abbrev pub entriesIn : List ℕ → List ℕ → List ℕ → List Slot
+entriesIn words ones twos = row (slotFrom words ones twos) 0 (length words)
+
+-- "Build answers Sole, Several, None, Unsettled […], each with its own numbers"
+abbrev pub saysWalked : ℕ → List ℕ → Walked → Outcome
+saysWalked l ws (Sole n) = settled (sole (spell l ws)) n
+saysWalked l ws (Several n) = settled (several (spell l ws)) n
+saysWalked l ws (None n) = settled noBuild n
+saysWalked l ws (Unsettled n) = unsettled n
+
+abbrev pub GivesBuild : Walked → Type 0
+GivesBuild (Sole n) = Unit {0}
+GivesBuild (Several n) = Unit {0}
+GivesBuild (None n) = ⊥
+GivesBuild (Unsettled n) = ⊥
+
+pub record Walks (l : ℕ) (es : List Slot) (budget : ℕ) (r : Walked) (ws : List ℕ) : Type 0 where
+  pub means : Means l es budget (saysWalked l ws r)
+  pub worded : GivesBuild r → Worded l es ws
