@@ -1,5 +1,6 @@
--- `PartLaws` is of a list's parts, `CountLaws` of how many pass a test, `KeyLaws` of counting keys, `SpreadLaws` of spreading
--- entries over keys, `EntryLaws` of one entry's turn, `OrderLaws` of sorting by one key after another.
+-- `PartLaws` has laws of a list's parts, `CountLaws` of how many pass a test, `KeyLaws` of counting entries by key, `SpreadLaws` and
+-- `EntryLaws` of putting them into the lists of their keys, `OrderLaws` of sorting by one key after another, `SortLaws` of the sort as the
+-- code does it, `PreparedLaws` of the tables. The crates above need only what `Prepared` says.
 pub mod PartLaws
 pub mod CountLaws
 pub mod KeyLaws
