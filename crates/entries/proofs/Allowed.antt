@@ -3,7 +3,7 @@
 use mathlib.Core.Path.{_≡_, refl}
 use mathlib.Core.Logic.{⊎-elim}
 use mathlib.Core.Bool.{Bool, true, false, cond, _&&_, _||_}
-use Prim.Native.Nat.{ℕ, _+_, _-_, _≤_, _<_}
+use Prim.Native.Nat.{ℕ, _+_, _-_, _<_}
 use native.Mathlib.Omega.{arith}
 use lib.Dec.{leb, ltb, eqb}
 use borrow.Author.Tests.{ltb-true, leb-true, eqb-true}
@@ -49,16 +49,6 @@ allowed-below kind m one two p = go (eqb kind span) (eqb two noPlace) refl
     go true n e h a = span-below m one two p h a
     go false true e h a = one-below m one two p h a
     go false false e h a = two-below m one two p h e a
-
--- what the rule of a span says
-pub span-is : (m one two : ℕ) → spanHolds m one two ≡ true → (one ≤ two) × (two < m) × (two < one + widest)
-unfolding spanHolds
-span-is m one two h =
-    let width = both (isPlace m one && isPlace m two && leb one two) (leb (two - one + 1) widest) h in
-    let order = both (isPlace m one && isPlace m two) (leb one two) (width .0) in
-    let places = both (isPlace m one) (isPlace m two) (order .0) in
-    let rises = leb-true one two (order .1) in
-    (rises, ltb-true two m (places .1), omega (arith, leb-true (two - one + 1) widest (width .1)))
 
 -- an entry of a span card
 pub span-entry : (s : Slot) → entryOf span s ≡ record { word = s .word; places = Span (s .one) (s .two) }

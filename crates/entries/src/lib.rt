@@ -21,7 +21,7 @@ pub const LEAST_LENGTH: usize = 2;
 
 pub const MOST_LENGTH: usize = 12;
 // How wide a span may be.
-const WIDEST: u16 = 8;
+pub const WIDEST: u16 = 8;
 // What stands for place two where there is no second place.
 const NO_PLACE: u16 = 65535;
 // How many words there are of 0, 1, 2, … letters.

@@ -18,7 +18,7 @@ pub const THE_FORM: u8 = 1;
 // The least entries of a card.
 const LEAST: usize = 1;
 // The most entries of a card.
-const MOST: usize = 504;
+pub const MOST: usize = 504;
 // The entries of a full block.
 const PER_BLOCK: usize = 63;
 

@@ -22,6 +22,7 @@ use Rattle.spans.proofs.Tried.{Candidate, candidate-of, of-candidate}
 use Rattle.spans.proofs.Builds.{is-true}
 use Rattle.spans.proofs.Indices.{without, without-keep, choiceIn, numbers-in, in-numbers, others-table}
 use Rattle.tables.specs.Prepared.{Prepared, Sooner, listAt}
+use Rattle.tables.proofs.PartLaws.{same-or-not}
 use Rattle.walk.specs.Steps.{isLeft, spanAt, agrees, able, isDue, opened}
 use Rattle.walk.specs.Going.{Wants, at-first, later-on}
 use Rattle.walk.proofs.KeepLaws.{same-test, never, keep-same, keep-none, keep-both}
@@ -39,13 +40,6 @@ agrees-follows {l} (later-on {i} {want} {v} pos e) w =
 sooner-apart : (words twos : List ℕ) (j k : ℕ) → Sooner words twos j k → j ≡ k → ⊥
 sooner-apart words twos j k (inl h) e = omega (arith, ap (λ x. getD words x 0) e)
 sooner-apart words twos j k (inr h) e = ⊎-elim (λ g. omega (arith, ap (λ x. getD twos x 0) e)) (λ g. omega (arith, g .1)) (h .1)
-
-pub same-or-not : (a b : ℕ) → (a ≡ b) ⊎ (a ≡ b → ⊥)
-same-or-not a b = go (eqb a b) refl
-  where
-    go : (t : Bool) → eqb a b ≡ t → (a ≡ b) ⊎ (a ≡ b → ⊥)
-    go true e = inl (eqb-true a b e)
-    go false e = inr (eqb-false a b e)
 
 -- a place of the card, where no entry that is left ends before it
 pub record Place (i : ℕ) (words ones twos starts slots marks : List ℕ) : Type 0 where

@@ -8,8 +8,8 @@ use lib.ListN.{length, getD}
 use lib.Bits.{bitAnd, and-mask}
 use lib.Pow.{pow-mono}
 use Rattle.entries.specs.Fault.{mostLength}
-use Rattle.entries.proofs.Allowed.{span-is}
 use Rattle.tables.specs.Spans.{Spans}
+use Rattle.tables.proofs.PreparedLaws.{span-says}
 use Rattle.walk.specs.Steps.{noWord}
 
 four-pow : (k : ℕ) → 4 ^ k ≡ 2 ^ (2 * k)
@@ -22,7 +22,7 @@ pow-positive (suc k) = let h = pow-positive k in omega arith
 
 module _ {l : ℕ} {words ones twos : List ℕ} (card : Spans l words ones twos) where
   pub spans-rise : (e : ℕ) → e < length words → getD ones e 0 ≤ getD twos e 0
-  spans-rise e h = span-is (length words) (getD ones e 0) (getD twos e 0) (card .holds e h) .0
+  spans-rise e h = span-says (card .holds e h) .in-order
 
   pub words-below : (e : ℕ) → e < length words → getD words e 0 < noWord
   words-below e h =

@@ -7,9 +7,9 @@ use mathlib.Core.Option.{none}
 use Prim.Native.Nat.{ℕ, zero, suc, _+_, _-_, _^_, _≤_, _<_}
 use native.Mathlib.Omega.{arith}
 use native.Mathlib.Numerals.{add-one}
-use lib.ListN.{length, getD, set, length-set, length-map}
-use lib.Seq.{getD-set-same, getD-set-other}
-use mathlib.Core.Logic.{_⊎_, inl, inr}
+use lib.ListN.{length, getD, take, length-map}
+use lib.Seq.{getD-take, length-take-le}
+use borrow.Author.Tests.{eq-eqb}
 use Rattle.answers.specs.Row.{row}
 use Rattle.answers.proofs.RowLaws.{row-none, row-first, length-row}
 use Rattle.entries.specs.declared.Slot.{Slot}
@@ -26,33 +26,24 @@ use Rattle.spans.proofs.Indices.{numbers-in, length-numbers}
 use Rattle.spans.proofs.Runs.{Keeps, keeps-none, keeps-one, keeps-two, keeps-spent, run-answers, run-worded}
 use Rattle.tables.specs.Spans.{Spans}
 use Rattle.tables.specs.Prepared.{Prepared}
+use Rattle.tables.proofs.PartLaws.{Filling, filling-all}
 use Rattle.walk.specs.Steps.{isLeft, spanAt, left, Unmarked, walkedAt}
 use Rattle.walk.specs.Going.{Shows, none-yet, one-build, two-builds, stopped, Ready, Wants, at-first, Sought, Went}
 use Rattle.walk.specs.Walked.{entriesIn, saysWalked, Walks}
-use Rattle.walk.proofs.Candidates.{same-or-not}
 use Rattle.walk.proofs.SpanLaws.{spans-rise}
 
 -- ---- every entry is left
 
-pub record Unmarking (marks₀ marks : List ℕ) (k : ℕ) : Type 0 where
-  pub all : length marks ≡ length marks₀
-  pub before-k : (j : ℕ) → j < k → isLeft marks j ≡ true
+-- a list of zeros marks nothing
+pub zeros-unmarked : {m k : ℕ} {marks : List ℕ} → Filling (λ j. 0) m k marks → m ≤ k → Unmarked marks
+zeros-unmarked {marks} f h = record { each = λ j g. eq-eqb (getD marks j 0) 0 (filling-all _ _ f h j g) }
 
-pub unmarking-none : (marks : List ℕ) → Unmarking marks marks 0
-unmarking-none marks = record { all = refl; before-k = λ j h. absurd (omega arith) }
-
-pub unmarking-more : {marks₀ marks : List ℕ} {k : ℕ} → Unmarking marks₀ marks k → k < length marks → Unmarking marks₀ (set marks k 0) (k + 1)
-unmarking-more {marks} {k} u h = record {
-  all = length-set marks k 0 ∙ u .all;
-  before-k = λ j g. cleared j (same-or-not j k) g;
+-- the first of them too
+pub unmarked-first : (m : ℕ) {marks : List ℕ} → Unmarked marks → m ≤ length marks → Unmarked (take m marks)
+unmarked-first m {marks} u h = record {
+  each = λ k g. let inside : k < m = omega (arith, length-take-le m marks h) in
+      rw (getD-take m marks k 0 inside) (u .each k (omega arith));
 }
-  where
-    cleared : (j : ℕ) → (j ≡ k) ⊎ (j ≡ k → ⊥) → j < k + 1 → isLeft (set marks k 0) j ≡ true
-    cleared j (inl e) g = rw (e, getD-set-same marks k 0 0 h)
-    cleared j (inr n) g = rw (getD-set-other marks k j 0 0 n) (u .before-k j (omega arith))
-
-pub unmarking-all : {marks₀ marks : List ℕ} {k : ℕ} → Unmarking marks₀ marks k → length marks ≤ k → Unmarked marks
-unmarking-all u h = record { each = λ k g. u .before-k k (omega arith) }
 
 -- ---- the entries of the lists
 

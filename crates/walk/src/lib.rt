@@ -1,9 +1,9 @@
 // The walk on span cards, over lists of words and places and lent tables.
 ghost use mathlib.Core.Path.{_≡_};
 ghost use mathlib.Core.Bool.{cond};
-ghost use Prim.Native.Nat.{_<_};
+ghost use Prim.Native.Nat.{_≤_, _<_};
 ghost use lib.Dec.{eqb};
-ghost use lib.ListN.{length, getD, set};
+ghost use lib.ListN.{length, getD, set, take};
 ghost use Rattle.tables.specs.Spans.{Spans};
 ghost use Rattle.tables.specs.Room.{Room};
 ghost use Rattle.walk.specs.Walked.{entriesIn, Walks};
@@ -251,8 +251,8 @@ fn outcome_of(t: Tally, budget: u32) -> Walked
     Walked::Unsettled(budget)
 }
 
-// The walk over lists that the entry rules admit. Where it gives a build, `first` has the words of the alphabetically first one; the other
-// lent lists are its tables, and are left as the walk needs them.
+// The walk over lists that the entry rules admit. Where it gives a build, `first` begins with the words of the alphabetically first one; the
+// other lent lists are its tables, and are left as the walk needs them.
 pub fn walk(
     l: usize,
     words: &[u32],
@@ -269,32 +269,36 @@ pub fn walk(
 ) -> Walked
     requires { ⌜ Spans l (now words) (now ones) (now twos) ⌝ }
     requires { ⌜ Room (length (now words)) (now order) (now spare) (now keys) (now starts) (now slots) ⌝ }
-    requires { ⌜ (length (now marks) ≡ length (now words)) × (length (now first) ≡ length (now words)) ⌝ }
+    requires { ⌜ (length (now words) ≤ length (now marks)) × (length (now words) ≤ length (now first)) ⌝ }
     ensures { λ r. ⌜
-        Walks l (entriesIn (now (words .entry)) (now (ones .entry)) (now (twos .entry))) budget r (now (first .exit))
+        Walks
+        l
+        (entriesIn (now (words .entry)) (now (ones .entry)) (now (twos .entry)))
+        budget
+        r
+        (take (length (now (words .entry))) (now (first .exit)))
         ⌝ }
 {
     tables::prepare(l, words, ones, twos, order, spare, keys, starts, slots);
     unmark(marks);
+    let m = words.len();
     let mask = entries::words_of(l - 1) - 1;
     let none = Tally {
         placed: 0,
         state: 0,
     };
-    outcome_of(
-        walk_from(
-            starts,
-            slots,
-            words,
-            twos,
-            marks,
-            first,
-            0,
-            0,
-            mask,
-            budget,
-            none,
-        ),
+    let t = walk_from(
+        starts,
+        slots,
+        words,
+        twos,
+        &mut marks[..m],
+        &mut first[..m],
+        0,
+        0,
+        mask,
         budget,
-    )
+        none,
+    );
+    outcome_of(t, budget)
 }

@@ -1,21 +1,23 @@
--- `unmark` meets its contract: the loop keeps that the entries before k are left (`Unmarking`), and what is left to clear falls.
+-- `unmark` meets its contract: one zero more stands in each turn (`filling-turn`). What falls is how many are left.
 -- Assumes nothing.
+use mathlib.Core.Path.{refl}
 use Prim.Native.Nat.{_-_}
 use native.Mathlib.Omega.{arith}
 use lib.ListN.{length}
 use borrow.Author.Needs.{needs}
-use Rattle.walk.proofs.WholeLaws.{Unmarking, unmarking-none, unmarking-more, unmarking-all}
+use Rattle.tables.proofs.PartLaws.{Filling, filling-none, filling-turn}
+use Rattle.walk.proofs.WholeLaws.{zeros-unmarked}
 use Rattle.walk.proofs.unmark.Statement.{statement}
 use Rattle.walk.proofs.unmark.Tie as tie
 
 abbrev Inv-loop : tie.InvT-loop
-Inv-loop marks₀ k₀ marks k = Unmarking marks₀ marks k
+Inv-loop marks₀ k₀ marks k = Filling (λ j. 0) (length marks₀) k marks
 
 abbrev μ-loop : tie.MeasureT-loop
 μ-loop marks₀ k₀ marks k = length marks₀ - k
 
 loop-holds : tie.Need-loop-holds Inv-loop μ-loop
-loop-holds c = unmarking-none _
+loop-holds c = filling-none _ _ refl
 
 slice-write-marks : tie.Need-slice-write-marks Inv-loop μ-loop
 slice-write-marks c = search needs
@@ -27,13 +29,13 @@ loop-less : tie.Need-loop-less Inv-loop μ-loop
 loop-less c = omega (arith, c .before .loop .inv .all, c .loop-test .taken)
 
 loop-again : tie.Need-loop-again Inv-loop μ-loop
-loop-again c = unmarking-more (c .before .loop .inv) (c .loop-test .taken)
+loop-again c = filling-turn _ _ (c .before .loop .inv) (omega (arith, c .before .loop .inv .all, c .loop-test .taken)) refl
 
 same-length : tie.Need-same-length Inv-loop μ-loop
 same-length c = c .before .loop .inv .all
 
 returns : tie.Need-returns Inv-loop μ-loop
-returns c = unmarking-all (c .before .loop .inv) (c .loop-test .left)
+returns c = zeros-unmarked (c .before .loop .inv) (omega (arith, c .before .loop .inv .all, c .loop-test .left))
 
 pub unmark-spec : {M : Type 1} → statement M
 unmark-spec =

@@ -1,11 +1,12 @@
 -- `walk` meets its contract: `ready-first` for the call at the first place, `whole-walk` for what it comes to. Assumes nothing.
-use mathlib.Core.Path.{_≡_, _∙_}
-use Prim.Native.Nat.{_+_, _-_, _^_}
+use mathlib.Core.Path.{_≡_, sym, _∙_}
+use Prim.Native.Nat.{_+_, _-_, _^_, _≤_}
 use native.Mathlib.Omega.{arith}
 use lib.ListN.{length}
+use lib.Seq.{length-take-le, take-at}
 use borrow.Author.Needs.{needs}
 use Rattle.walk.proofs.SpanLaws.{pow-positive}
-use Rattle.walk.proofs.WholeLaws.{ready-first, whole-walk}
+use Rattle.walk.proofs.WholeLaws.{unmarked-first, ready-first, whole-walk}
 use Rattle.walk.proofs.walk.Statement.{statement}
 use Rattle.walk.proofs.walk.Tie as tie
 
@@ -30,10 +31,16 @@ masked c = c .before .before .before .before .before
 masks : (c : tie.After-words-of) → c .words-of .result - 1 + 1 ≡ 4 ^ (start (filled (cleared c)) .args .l - 1)
 masks c = omega (arith, c .words-of .ensures, pow-positive (start (filled (cleared c)) .args .l - 1))
 
--- there is a mark for each entry
-marks-all : (c : tie.After-words-of)
-    → length (cleared c .unmark .last .0) ≡ length (start (filled (cleared c)) .args .words .now)
-marks-all c = c .before .before .marks .given ∙ start (filled (cleared c)) .pre .1 .1 .0
+-- there is a mark and a slot of the first build for each entry
+module _ (c : tie.After-words-of) where
+  abbrev at-start : tie.Start
+  at-start = start (filled (cleared c))
+
+  marks-room : length (at-start .args .words .now) ≤ length (cleared c .unmark .last .0)
+  marks-room = omega (arith, c .before .before .marks .given, at-start .pre .1 .1 .0)
+
+  first-room : length (at-start .args .words .now) ≤ length (at-start .args .first .now)
+  first-room = at-start .pre .1 .1 .1
 
 prepare-requires : tie.Need-prepare-requires
 prepare-requires c κs = search needs
@@ -50,12 +57,24 @@ words-of-requires c κs = search needs
 sub-mask : tie.Need-sub-mask
 sub-mask c = omega (arith, c .words-of .ensures, pow-positive (start (filled (cleared c)) .args .l - 1))
 
+slice-relend-prefix-walk-from : tie.Need-slice-relend-prefix-walk-from
+slice-relend-prefix-walk-from c = marks-room (c .before .before)
+
+slice-aggregate-walk-from : tie.Need-slice-aggregate-walk-from
+slice-aggregate-walk-from c = sym (length-take-le _ _ (marks-room (c .before .before .before)))
+
+slice-relend-prefix-walk-from-2 : tie.Need-slice-relend-prefix-walk-from-2
+slice-relend-prefix-walk-from-2 c = first-room (c .before .before .before)
+
+slice-aggregate-walk-from-2 : tie.Need-slice-aggregate-walk-from-2
+slice-aggregate-walk-from-2 c = sym (length-take-le _ _ (first-room (c .before .before .before .before)))
+
 walk-from-requires : tie.Need-walk-from-requires
 walk-from-requires c κs =
-    let clear = cleared (c .before .before .before .before) in
-    let at = start (filled clear) in
-    ready-first (at .pre .0) (filled clear .prepare .ensures) (clear .unmark .ensures) (marks-all (c .before .before .before .before)) _
-    (at .pre .1 .1 .1)
+    let masking = c .before .before .before .before in
+    let clear = cleared masking in
+    ready-first (at-start masking .pre .0) (filled clear .prepare .ensures) (unmarked-first _ (clear .unmark .ensures) (marks-room masking))
+    (length-take-le _ _ (marks-room masking)) _ (length-take-le _ _ (first-room masking))
 
 outcome-of-requires : tie.Need-outcome-of-requires
 outcome-of-requires c κs = search needs
@@ -84,11 +103,12 @@ same-length-7 c = search needs
 returns : tie.Need-returns
 returns c =
     let went = c .before .before .before .before .before in
-    let clear = cleared (masked went) in
-    let at = start (filled clear) in
-    rw (c .outcome-of .ensures)
-    (whole-walk (at .pre .0) (filled clear .prepare .ensures) (clear .unmark .ensures) (marks-all (masked went)) (masks (masked went))
-    (went .walk-from .ensures))
+    let masking = masked went in
+    let clear = cleared masking in
+    let all = went .walk-from .ensures .firsts ∙ length-take-le _ _ (first-room masking) in
+    rw (c .outcome-of .ensures, take-at (went .walk-from .last .1 .1 .1 .1 .1 .0) _ _ all)
+    (whole-walk (at-start masking .pre .0) (filled clear .prepare .ensures) (unmarked-first _ (clear .unmark .ensures) (marks-room masking))
+    (length-take-le _ _ (marks-room masking)) (masks masking) (went .walk-from .ensures))
 
 pub walk-spec : {M : Type 1} → statement M
 walk-spec =
@@ -99,6 +119,10 @@ walk-spec =
     sub-words-of
     words-of-requires
     sub-mask
+    slice-relend-prefix-walk-from
+    slice-aggregate-walk-from
+    slice-relend-prefix-walk-from-2
+    slice-aggregate-walk-from-2
     walk-from-requires
     outcome-of-requires
     same-length

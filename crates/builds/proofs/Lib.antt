@@ -1,0 +1,2 @@
+-- `WalkingLaws` has the laws of walking lists.
+pub mod WalkingLaws

@@ -1,0 +1,113 @@
+// Building over lists: the tests of the lists and of the output, then the method. `walk_lists` has no `requires`: it tests its own input.
+ghost use mathlib.Core.Path.{_≡_};
+ghost use lib.ListN.{length};
+ghost use Rattle.layout.specs.Bounds.{mostEntries};
+ghost use Rattle.lists.proofs.SpanLaws.{SpanLists};
+ghost use Rattle.walk.specs.Walked.{entriesIn};
+ghost use Rattle.builds.specs.Walking.{wordsAfter, WalksInto, Answered};
+use answers::Held;
+use answers::Refusal;
+use layout::MOST;
+use walk::Walked;
+
+// The slots of the lists of all places together: each entry may stand at so many places.
+const SLOTS: usize = entries::WIDEST as usize * MOST;
+
+// What walking lists answers: what the walk comes to, or the refusal.
+pub enum WalkAnswer {
+    Walked(Walked),
+    Refused(Refusal),
+}
+
+// Copies the words over all of an output that has their number.
+fn copy_words(out: &mut [u32], words: &[u32])
+    requires { ⌜ length (now out) ≡ length (now words) ⌝ }
+    ensures { λ _. ⌜ now (out .exit) ≡ now (words .entry) ⌝ }
+{
+    let mut k = 0;
+    while k < words.len() {
+        out[k] = words[k];
+        k += 1;
+    }
+}
+
+// The words of the build stand in the output where one is given; else it is as it was.
+fn give_words(out: &mut [u32], words: &[u32], r: Walked)
+    requires { ⌜ length (now out) ≡ length (now words) ⌝ }
+    ensures { λ _. ⌜ now (out .exit) ≡ wordsAfter r (now (words .entry)) (now (out .entry)) ⌝ }
+{
+    match r {
+        Walked::Sole(_) => copy_words(out, words),
+        Walked::Several(_) => copy_words(out, words),
+        Walked::None(_) => {}
+        Walked::Unsettled(_) => {}
+    }
+}
+
+// The walk over lists that hold, with tables of its own.
+fn walk_into(
+    l: usize,
+    words: &[u32],
+    ones: &[u16],
+    twos: &[u16],
+    budget: u32,
+    out: &mut [u32],
+) -> Walked
+    requires { ⌜ SpanLists mostEntries l (now words) (now ones) (now twos) ⌝ }
+    requires { ⌜ length (now out) ≡ length (now words) ⌝ }
+    ensures { λ r. ⌜
+        WalksInto l (entriesIn (now (words .entry)) (now (ones .entry)) (now (twos .entry))) budget r (now (out .entry)) (now (out .exit))
+        ⌝ }
+{
+    let m = words.len();
+    let mut order = [0; MOST];
+    let mut spare = [0; MOST];
+    let mut keys = [0; MOST];
+    let mut starts = [0; MOST + 1];
+    let mut slots = [0; SLOTS];
+    let mut marks = [0; MOST];
+    let mut found = [0; MOST];
+    let r = walk::walk(
+        l,
+        words,
+        ones,
+        twos,
+        budget,
+        &mut order,
+        &mut spare,
+        &mut keys,
+        &mut starts,
+        &mut slots,
+        &mut marks,
+        &mut found,
+    );
+    give_words(out, &found[..m], r);
+    r
+}
+
+// Walks the lists of a span card. Where there is a build, the words of the alphabetically first one stand at the start of the output, whose
+// later elements are as they were; with every other answer all of it is as it was.
+pub fn walk_lists(
+    l: usize,
+    words: &[u32],
+    ones: &[u16],
+    twos: &[u16],
+    budget: u32,
+    out: &mut [u32],
+) -> WalkAnswer
+    ensures { λ r. ⌜
+        Answered l (now (words .entry)) (now (ones .entry)) (now (twos .entry)) budget (now (out .entry)) r (now (out .exit))
+        ⌝ }
+{
+    if let Held::Refused(r) = lists::lists_hold(entries::SPAN, l, words, ones, twos) {
+        return WalkAnswer::Refused(r);
+    }
+    let m = words.len();
+    if out.len() < m {
+        return WalkAnswer::Refused(Refusal {
+            number: answers::ROOM,
+            place: 0,
+        });
+    }
+    WalkAnswer::Walked(walk_into(l, words, ones, twos, budget, &mut out[..m]))
+}
