@@ -1,27 +1,17 @@
 -- Laws of arrangements and builds: an arrangement has all the entries, its words are a chain, a build has m+l−1 letters, and the l letters
 -- from each place on are those of a word. Assumes nothing.
-use mathlib.Core.Path.{_≡_, refl}
-use mathlib.Core.Logic.{⊎-elim}
+use mathlib.Core.Path.{_≡_}
 use mathlib.Core.List.{List}
 use Prim.Native.Nat.{ℕ, _+_, _^_, _<_}
 use native.Mathlib.Omega.{arith}
 use lib.ListN.{length, getD, take, drop, length-map}
 use Rattle.entries.specs.declared.Entry.{Entry}
-use Rattle.sequence.specs.Lists.{In, Reordered, empty, next}
+use Rattle.sequence.specs.Lists.{In}
 use Rattle.sequence.specs.Arrangement.{Arrangement, words}
 use Rattle.sequence.specs.Build.{lettersOf, Build}
-use Rattle.sequence.proofs.ListLaws.{in-cons, in-cast, in-left, in-map, taken-is-in, length-taken}
+use Rattle.sequence.proofs.ListLaws.{in-map}
+use Rattle.sequence.proofs.ReorderedLaws.{reordered-length, reordered-in}
 use Rattle.sequence.proofs.SpellingLaws.{Chained, standing-chain, spell-length, spell-window}
-
--- ---- the same members in another order
-
-module _ {A : Type 0} where
-  pub reordered-length : {all order : List A} → Reordered all order → length order ≡ length all
-  reordered-length empty = refl
-  reordered-length (next t r) = let h = reordered-length r in omega (arith, length-taken t)
-
-  pub reordered-in : {all order : List A} {x : A} → Reordered all order → In x order → In x all
-  reordered-in (next t r) h = ⊎-elim (λ e. in-cast e (taken-is-in t)) (λ g. in-left t (reordered-in r g)) (in-cons h)
 
 -- ---- arrangements
 

@@ -1,14 +1,18 @@
 -- Laws of lists in another order and of lists that pair off, and of what a map does to them. Assumes nothing.
 use mathlib.Core.Path.{_≡_, refl, ap}
+use mathlib.Core.Logic.{⊎-elim}
 use mathlib.Core.List.{List, [], _∷_, map, nil≢cons}
 use native.Mathlib.Omega.{arith}
 use lib.ListN.{length}
 use Rattle.sequence.specs.Lists.{In, Taken, here, there, Reordered, empty, next, Paired, nobody, pair}
-use Rattle.sequence.proofs.ListLaws.{length-taken, taken-is-in, in-left}
+use Rattle.sequence.proofs.ListLaws.{in-cons, in-cast, in-left, length-taken, taken-is-in}
 
 pub reordered-length : {A : Type 0} {l o : List A} → Reordered l o → length o ≡ length l
 reordered-length empty = refl
 reordered-length (next t r) = let h = reordered-length r in omega (arith, length-taken t)
+
+pub reordered-in : {A : Type 0} {all order : List A} {x : A} → Reordered all order → In x order → In x all
+reordered-in (next t r) h = ⊎-elim (λ e. in-cast e (taken-is-in t)) (λ g. in-left t (reordered-in r g)) (in-cons h)
 
 module _ {A B : Type 0} (f : A → B) where
   taken-map : {a : A} {l m : List A} → Taken a l m → Taken (f a) (map f l) (map f m)

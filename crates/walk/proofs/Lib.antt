@@ -10,3 +10,4 @@ pub mod RunLaws
 pub mod Turns
 pub mod Held
 pub mod WholeLaws
+pub mod Determined

@@ -1,0 +1,76 @@
+-- The contract of `walk_lists` determines the outcome: two answers, with what the output holds afterwards, that both meet it at the same
+-- input are equal. `Post` is the contract as it is read from the source. Assumes nothing.
+use mathlib.Core.Path.{_≡_, refl, sym, ap, _∙_}
+use mathlib.Core.List.{List}
+use Prim.Native.Nat.{ℕ}
+use native.Mathlib.Omega.{arith}
+use contract.Lifetimes.{Lfts}
+use denote.Ref.{now}
+use denote.Triple.Clauses.{AtExit}
+use borrow.Fn.Kinds.{Dens, resT, endedOf}
+use lib.ListN.{length}
+use Rattle.answers.specs.Answer.{first, Answer, given, refused, Sound, sound}
+use Rattle.answers.specs.declared.Refusal.{Refusal}
+use Rattle.answers.proofs.Laws.{first-both}
+use Rattle.entries.specs.Fault.{span}
+use Rattle.layout.specs.Bounds.{mostEntries}
+use Rattle.lists.specs.Lists.{listsTests}
+use Rattle.lists.proofs.SpanLaws.{lists-span}
+use Rattle.spans.proofs.Meant.{Entered}
+use Rattle.walk.specs.declared.Walked.{Walked}
+use Rattle.walk.specs.declared.Walked.the-variants.{Sole, Several, None, Unsettled}
+use Rattle.walk.specs.Walked.{entriesIn, GivesBuild, Walks}
+use Rattle.walk.proofs.WholeLaws.{entered}
+use Rattle.walk.proofs.Determined.{walks-one, words-one}
+use Rattle.builds.specs.declared.WalkAnswer.{WalkAnswer}
+use Rattle.builds.specs.declared.WalkAnswer.the-variants as is
+use Rattle.builds.specs.Walking.{walkTests, wordsAfter, Answered, walked, refuses}
+use Rattle.builds.proofs.WalkingLaws.{span-card}
+use Rattle.builds.proofs.walk_lists.Kinds as walk-lists
+use Rattle.builds.proofs.walk_lists.Reads as walk-lists-reads
+
+-- entries whose tests hold are admitted
+admitted : (l room : ℕ) (words ones twos : List ℕ) → first (walkTests l words ones twos room) sound ≡ given sound
+    → Entered l (entriesIn words ones twos)
+unfolding walkTests
+admitted l room words ones twos e =
+    entered (span-card (lists-span (first-both _ sound (listsTests mostEntries span l words ones twos) sound e .0)))
+
+-- the output after two answers with the same words, where words are given, is one
+after-one : (r : Walked) {ws vs : List ℕ} (before : List ℕ) → (GivesBuild r → ws ≡ vs) → wordsAfter r ws before ≡ wordsAfter r vs before
+after-one (Sole n) before h = ap (λ (x : List ℕ). wordsAfter (Sole n) x before) (h tt)
+after-one (Several n) before h = ap (λ (x : List ℕ). wordsAfter (Several n) x before) (h tt)
+after-one (None n) before h = refl
+after-one (Unsettled n) before h = refl
+
+given-or-refused : {t : Answer Sound} {n p : ℕ} → t ≡ given sound → t ≡ refused n p → ⊥
+given-or-refused e f = let z : _≡_ {A = ℕ} 0 1 = cc in absurd (omega arith)
+
+refusalBack : Answer Sound → Refusal
+refusalBack (given s) = record { number = 0; place = 0 }
+refusalBack (refused n p) = record { number = n; place = p }
+
+refused-one : {t : Answer Sound} {r r′ : Refusal} → t ≡ refused (r .number) (r .place) → t ≡ refused (r′ .number) (r′ .place) → r ≡ r′
+unfolding refusalBack
+refused-one e f = ap refusalBack (sym e ∙ f)
+
+module _ {l budget : ℕ} {words ones twos before : List ℕ} where
+  pub answered-one : {r r′ : WalkAnswer} {after after′ : List ℕ} → Answered l words ones twos budget before r after
+      → Answered l words ones twos budget before r′ after′
+      → (r ≡ r′) × (after ≡ after′)
+  answered-one (walked {r} {ws} e p a) (walked {ws = vs} f q b) =
+      let entries = admitted l (length before) words ones twos e in
+      let same = walks-one entries p q in (
+        ap is.Walked same,
+        a ∙ after-one r before (words-one entries p q) ∙ ap (λ (x : Walked). wordsAfter x vs before) same ∙ sym b,
+      )
+  answered-one (walked e p a) (refuses f b) = absurd (given-or-refused e f)
+  answered-one (refuses e a) (walked f q b) = absurd (given-or-refused f e)
+  answered-one (refuses e a) (refuses f b) = (ap is.Refused (refused-one e f), a ∙ sym b)
+
+pub walk-lists-one : (κs : Lfts 4) (a : Dens κs walk-lists.ps) (r r′ : resT walk-lists.r κs .Denot)
+    (e e′ : AtExit (endedOf 4 walk-lists.ps walk-lists.r) κs)
+    → walk-lists-reads.Post κs a r e
+    → walk-lists-reads.Post κs a r′ e′
+    → (r ≡ r′) × (now (e .1 .1 .1 .1 .1 .0) ≡ now (e′ .1 .1 .1 .1 .1 .0))
+walk-lists-one κs a r r′ e e′ p q = answered-one p q

@@ -1,0 +1,97 @@
+-- What a walk promises determines its answer, and the words of the build where it gives one: two answers that both meet it are equal. The
+-- other lent lists are tables, of which nothing is promised. `Post` is the contract as it is read from the source. Assumes nothing.
+use mathlib.Core.Path.{_≡_, refl, sym, ap, _∙_}
+use mathlib.Core.List.{List, []}
+use Prim.Native.Nat.{ℕ, _^_, _<_}
+use contract.Lifetimes.{Lfts}
+use denote.Ref.{now}
+use denote.Triple.Clauses.{AtExit}
+use borrow.Fn.Kinds.{Dens, resT, endedOf}
+use lib.ListN.{length, take}
+use Rattle.entries.specs.declared.Slot.{Slot}
+use Rattle.entries.specs.declared.Entry.{Entry}
+use Rattle.entries.specs.Entry.{entryOf}
+use Rattle.entries.specs.Fault.{span}
+use Rattle.sequence.specs.Lists.{In}
+use Rattle.sequence.specs.Arrangement.{words}
+use Rattle.sequence.specs.Build.{spell}
+use Rattle.sequence.specs.Verdict.{sole, several, noBuild, Outcome, settled, unsettled}
+use Rattle.sequence.proofs.ListLaws.{in-map}
+use Rattle.sequence.proofs.BuildLaws.{words-length, arrangement-chained}
+use Rattle.sequence.proofs.SpellingLaws.{Chained, spell-one}
+use Rattle.spans.specs.Settling.{spanEntries, Worded, Means}
+use Rattle.spans.proofs.Builds.{same-word}
+use Rattle.spans.proofs.Meant.{Entered, means-one}
+use Rattle.walk.specs.declared.Walked.{Walked}
+use Rattle.walk.specs.declared.Walked.the-variants.{Sole, Several, None, Unsettled}
+use Rattle.walk.specs.Walked.{saysWalked, GivesBuild, Walks}
+use Rattle.walk.proofs.WholeLaws.{entered}
+use Rattle.walk.proofs.walk.Kinds as walk-kinds
+use Rattle.walk.proofs.walk.Reads as walk-reads
+
+-- ---- the words of an arrangement are those that it spells
+
+module _ {l : ℕ} {es : List Slot} (admitted : Entered l es) where
+  entry-fits : (e : Entry) → In e (spanEntries es) → e .word < 4 ^ l
+  entry-fits e h = let u = in-map (entryOf span) es h in rw (u .2) (rw (same-word (u .0)) (admitted .fits (u .0) (u .1)))
+
+  worded-chained : {ws : List ℕ} → Worded l es ws → Chained l ws
+  worded-chained w = rw (w .in-order) (arrangement-chained entry-fits (w .arrangement))
+
+  pub worded-one : {ws vs : List ℕ} → Worded l es ws → Worded l es vs → spell l ws ≡ spell l vs → ws ≡ vs
+  worded-one w v =
+      spell-one (worded-chained w) (worded-chained v)
+      (ap length (w .in-order) ∙ words-length (w .arrangement) ∙ sym (words-length (v .arrangement)) ∙ sym (ap length (v .in-order)))
+
+-- ---- the enum, had back from what it says
+
+walkedBack : Outcome → Walked
+walkedBack (settled (sole s) n) = Sole n
+walkedBack (settled (several s) n) = Several n
+walkedBack (settled noBuild n) = None n
+walkedBack (unsettled n) = Unsettled n
+
+walked-back : (l : ℕ) (ws : List ℕ) (r : Walked) → walkedBack (saysWalked l ws r) ≡ r
+unfolding walkedBack
+walked-back l ws (Sole n) = refl
+walked-back l ws (Several n) = refl
+walked-back l ws (None n) = refl
+walked-back l ws (Unsettled n) = refl
+
+spelledIn : Outcome → List ℕ
+spelledIn (settled (sole s) n) = s
+spelledIn (settled (several s) n) = s
+spelledIn (settled noBuild n) = []
+spelledIn (unsettled n) = []
+
+spelled-in : (l : ℕ) (ws : List ℕ) (r : Walked) → GivesBuild r → spelledIn (saysWalked l ws r) ≡ spell l ws
+unfolding spelledIn
+spelled-in l ws (Sole n) g = refl
+spelled-in l ws (Several n) g = refl
+spelled-in l ws (None n) g = absurd g
+spelled-in l ws (Unsettled n) g = absurd g
+
+-- ---- two outcomes are one
+
+module _ {l budget : ℕ} {es : List Slot} {r r′ : Walked} {ws vs : List ℕ} (admitted : Entered l es) (p : Walks l es budget r ws)
+    (q : Walks l es budget r′ vs) where
+  same : saysWalked l ws r ≡ saysWalked l vs r′
+  same = means-one (p .means) (q .means)
+
+  pub walks-one : r ≡ r′
+  walks-one = sym (walked-back l ws r) ∙ ap walkedBack same ∙ walked-back l vs r′
+
+  pub words-one : GivesBuild r → ws ≡ vs
+  words-one g =
+      let g′ : GivesBuild r′ = rw walks-one at g in
+      worded-one admitted (p .worded g) (q .worded g′)
+      (sym (spelled-in l ws r g) ∙ ap spelledIn same ∙ spelled-in l vs r′ g′)
+
+pub walk-one : (κs : Lfts 10) (a : Dens κs walk-kinds.ps) (r r′ : resT walk-kinds.r κs .Denot)
+    (e e′ : AtExit (endedOf 10 walk-kinds.ps walk-kinds.r) κs)
+    → walk-reads.Pre κs a
+    → walk-reads.Post κs a r e
+    → walk-reads.Post κs a r′ e′
+    → (r ≡ r′)
+    × (GivesBuild r → take (length (now (a .1 .0))) (now (e .1 .1 .1 .1 .1 .1 .1 .1 .1 .1 .1 .0)) ≡ take (length (now (a .1 .0))) (now (e′ .1 .1 .1 .1 .1 .1 .1 .1 .1 .1 .1 .0)))
+walk-one κs a r r′ e e′ pre p q = (walks-one (entered (pre .0)) p q, words-one (entered (pre .0)) p q)
