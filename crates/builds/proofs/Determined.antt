@@ -19,7 +19,7 @@ use Rattle.lists.proofs.SpanLaws.{lists-span}
 use Rattle.spans.proofs.Meant.{Entered}
 use Rattle.walk.specs.declared.Walked.{Walked}
 use Rattle.walk.specs.declared.Walked.the-variants.{Sole, Several, None, Unsettled}
-use Rattle.walk.specs.Walked.{entriesIn, GivesBuild, Walks}
+use Rattle.walk.specs.Walked.{entriesIn, GivesBuild}
 use Rattle.walk.proofs.WholeLaws.{entered}
 use Rattle.walk.proofs.Determined.{walks-one, words-one}
 use Rattle.builds.specs.declared.WalkAnswer.{WalkAnswer}

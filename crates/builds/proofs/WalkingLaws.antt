@@ -1,6 +1,6 @@
 -- Laws of walking lists: what the walk asks, the words that are given, and each outcome. Assumes nothing.
-use mathlib.Core.Path.{_≡_, refl, sym, ap, _∙_}
-use mathlib.Core.List.{List, [], _∷_, _++_, append-nil}
+use mathlib.Core.Path.{_≡_, sym, ap, _∙_}
+use mathlib.Core.List.{List, [], _++_, append-nil}
 use Prim.Native.Nat.{ℕ, _≤_, _<_}
 use native.Mathlib.Omega.{arith}
 use lib.ListN.{length, getD, take, drop, drop-of-length-le, length-take, take-append-drop}
@@ -8,7 +8,7 @@ use lib.Seq.{ext-getD}
 use lib.Dec.{leb}
 use borrow.Author.Tests.{le-leb, lt-leb}
 use Rattle.answers.specs.Numbers.{Room}
-use Rattle.answers.specs.Answer.{first, test, given, refused, Sound, sound}
+use Rattle.answers.specs.Answer.{first, given, refused, sound}
 use Rattle.answers.specs.declared.Refusal.{Refusal}
 use Rattle.answers.proofs.Laws.{first-holds, first-refused, first-last, first-fail}
 use Rattle.entries.specs.Fault.{span}
@@ -19,7 +19,7 @@ use Rattle.tables.specs.Spans.{Spans}
 use Rattle.tables.proofs.PartLaws.{Filling, filling-all}
 use Rattle.walk.specs.declared.Walked.{Walked}
 use Rattle.walk.specs.declared.Walked.the-variants.{Sole, Several, None, Unsettled}
-use Rattle.walk.specs.Walked.{entriesIn, Walks}
+use Rattle.walk.specs.Walked.{entriesIn}
 use Rattle.builds.specs.Walking.{walkTests, wordsAfter, WalksInto, Answered, walked, refuses}
 use Rattle.builds.specs.declared.WalkAnswer.the-variants as is
 

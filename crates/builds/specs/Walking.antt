@@ -11,7 +11,7 @@ use Prim.Native.Nat.{ℕ}
 use lib.ListN.{length, drop}
 use lib.Dec.{leb}
 use Rattle.answers.specs.Numbers.{Room}
-use Rattle.answers.specs.Answer.{Test, test, first, given, refused, Sound, sound}
+use Rattle.answers.specs.Answer.{Test, test, first, given, refused, sound}
 use Rattle.answers.specs.declared.Refusal.{Refusal}
 use Rattle.entries.specs.declared.Slot.{Slot}
 use Rattle.entries.specs.Fault.{span}

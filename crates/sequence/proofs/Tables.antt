@@ -14,7 +14,7 @@ abbrev pub decided : Table → Verdict
 decided t = verdictOf (sequences 2 (t .entries))
 
 -- two maps that are one agree on each member
-map-agree : {A B : Type 0} (f g : A → B) {x : A} {l : List A} → In x l → map f l ≡ map g l → f x ≡ g x
+pub map-agree : {A B : Type 0} (f g : A → B) {x : A} {l : List A} → In x l → map f l ≡ map g l → f x ≡ g x
 map-agree f g first e = cc
 map-agree f g (later {xs} h) e = let others : map f xs ≡ map g xs = cc in map-agree f g h others
 

@@ -2,7 +2,7 @@
 -- Assumes nothing.
 use mathlib.Core.Path.{_≡_, refl, sym, _∙_, ap}
 use mathlib.Core.Logic.{⊎-elim}
-use mathlib.Core.Bool.{Bool, true, _&&_}
+use mathlib.Core.Bool.{Bool, true}
 use mathlib.Core.List.{List, [], _∷_, map}
 use mathlib.Core.Option.{Option, none, some}
 use Prim.Native.Nat.{ℕ, suc, _<_}
@@ -10,12 +10,11 @@ use native.Mathlib.Omega.{arith}
 use lib.ListN.{length, length-map}
 use lib.Dec.{T, eqb, leb, eqb→eq, eqb-refl, leb→le, le→leb}
 use Rattle.entries.specs.declared.Slot.{Slot}
-use Rattle.entries.specs.declared.Entry.{Entry}
 use Rattle.entries.specs.Entry.{entryOf, allows}
 use Rattle.entries.specs.Fault.{span}
 use Rattle.entries.proofs.Allowed.{span-entry}
 use Rattle.sequence.specs.Lists.{In, Reordered, empty, next, Rising}
-use Rattle.sequence.specs.Arrangement.{follows, Standing, nobody, stands, words}
+use Rattle.sequence.specs.Arrangement.{Standing, nobody, stands, words}
 use Rattle.sequence.specs.Build.{spell, Build}
 use Rattle.sequence.specs.Verdict.{Before}
 use Rattle.sequence.proofs.ListLaws.{not-in-nil, in-cons, in-keep, keep-in, rising-keep, length-taken}
@@ -83,15 +82,6 @@ feasible-standing {l} (step {i} {p} {e = own} {w} t e a f more) n =
     (own ∷ s .0, next t (s .1), stands {p = p} {e = entryOf span own} {es = spanEntries (s .0)} (allowed-is own i a) (rw same (is-true _ f)) (rw same (s .2)), cc)
 
 module _ {l : ℕ} {es : List Slot} where
-  pub build-complete : {s : List ℕ} → Build l (spanEntries es) s → (ws : List ℕ) × Complete l es ws × (s ≡ spell l ws)
-  build-complete b =
-      let k = map-reordered (entryOf span) es refl (b .arrangement .each) in
-      let stood = standing-feasible l 0 none (k .1) (rw (k .2) at (b .arrangement .standing)) in (
-        wordsOf (k .0),
-        record { feasible = stood; all = length-words (k .0) ∙ reordered-length (k .1) },
-        b .spelled ∙ ap (λ o. spell l (words o)) (k .2) ∙ ap (spell l) (same-words (k .0)),
-      )
-
   pub complete-worded : {ws : List ℕ} → Complete l es ws → Worded l es ws
   complete-worded c =
       let s = feasible-standing (c .feasible) (c .all) in
@@ -100,6 +90,18 @@ module _ {l : ℕ} {es : List Slot} where
         arrangement = record { each = reordered-map (entryOf span) (s .1); standing = s .2 };
         in-order = s .3 ∙ sym (same-words (s .0));
       }
+
+  pub worded-complete : {ws : List ℕ} → Worded l es ws → Complete l es ws
+  worded-complete w =
+      let k = map-reordered (entryOf span) es refl (w .arrangement .each) in
+      let stood = standing-feasible l 0 none (k .1) (rw (k .2) at (w .arrangement .standing)) in
+      let same : _ ≡ wordsOf (k .0) = w .in-order ∙ ap words (k .2) ∙ same-words (k .0) in
+      rw same (record { feasible = stood; all = length-words (k .0) ∙ reordered-length (k .1) })
+
+  pub build-complete : {s : List ℕ} → Build l (spanEntries es) s → (ws : List ℕ) × Complete l es ws × (s ≡ spell l ws)
+  build-complete b =
+      let w = worded-complete (record { order = b .order; arrangement = b .arrangement; in-order = refl }) in
+      (words (b .order), w, b .spelled)
 
   pub complete-build : {ws : List ℕ} → Complete l es ws → Build l (spanEntries es) (spell l ws)
   complete-build c =

@@ -13,7 +13,7 @@ use Rattle.entries.specs.Fault.{span}
 use Rattle.entries.specs.Entry.{entryOf}
 use Rattle.sequence.specs.Lists.{In, first, later, Paired, Rising, rises, keep}
 use Rattle.sequence.specs.Build.{spell, Build}
-use Rattle.sequence.specs.Verdict.{Before, Widens, Verdict, Outcome, sole, several, noBuild, settled, unsettled}
+use Rattle.sequence.specs.Verdict.{Before, Widens, Verdict, Outcome, sole, several, noBuild, settled}
 use Rattle.sequence.proofs.ListLaws.{in-keep, keep-in, rising-shorter}
 use Rattle.sequence.proofs.ReorderedLaws.{map-paired, paired-each}
 use Rattle.sequence.proofs.OrderLaws.{before-irr}

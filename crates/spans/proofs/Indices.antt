@@ -7,15 +7,15 @@ use mathlib.Core.Option.{Option, some}
 use Prim.Native.Nat.{ℕ, zero, suc, _+_, _≤_, _<_}
 use native.Mathlib.Omega.{arith}
 use native.Mathlib.Nat.{eq-or-lt-of-le}
-use mathlib.Core.Logic.{⊎-elim, _≢_}
+use mathlib.Core.Logic.{⊎-elim}
 use lib.ListN.{length}
-use lib.Dec.{T, T-not, eqb, eqb-refl, leb, ltb}
+use lib.Dec.{T, eqb, leb, ltb}
 use borrow.Author.Tests.{eq-eqb, ne-eqb}
 use Rattle.sequence.specs.Lists.{In, first, later, Rising, flat, rises, keep, numbers}
 use Rattle.entries.specs.declared.Slot.{Slot}
 use Rattle.spans.proofs.Feasible.{Allowed}
 use Rattle.spans.specs.Walk.{Choice, choice, wordOf, endOf, choices, isCandidate, insert, byWord, tried, walk}
-use Rattle.sequence.proofs.ListLaws.{in-map, in-keep, keep-in, rising-keep}
+use Rattle.sequence.proofs.ListLaws.{in-keep, keep-in, rising-keep}
 use Rattle.spans.proofs.Tried.{and-both, both-and, candidate-of}
 use Rattle.spans.proofs.Order.{Sooner, firsts, by-word-firsts}
 
@@ -172,22 +172,6 @@ module _ (entry : ℕ → Slot) where
   module _ (m : ℕ) (unused : ℕ → Bool) where
     abbrev pub leftOver : List ℕ
     leftOver = keep unused (numbers 0 m)
-
-    -- where no entry that is left ends before the place i, the table of i decides whether another one that is left ends there
-    pub others-table : (i j : ℕ) {table : List ℕ} → ((k : ℕ) → k < m → T (unused k) → i ≤ last k)
-        → ((k : ℕ) → k < m → entry k .one ≤ last k)
-        → ((k : ℕ) → k < m → Allowed (entry k) i → In k table) → ((k : ℕ) → In k table → T (unused k) → last k ≡ i → k ≡ j)
-        → (d : Slot) → In d (map entry (without j leftOver)) → i < d .two
-    unfolding without
-    others-table i j past span there alone d h =
-        let u = in-map entry (keep (λ k. not (eqb k j)) leftOver) h in
-        let k = u .0 in
-        let v = in-keep (λ k. not (eqb k j)) leftOver (u .1) in
-        let w = in-keep unused (numbers 0 m) (v .0) in
-        let below : k < m = omega (arith, numbers-in 0 m k (w .0)) in
-        let later-end : last k ≢ i = λ e. T-not (eqb k j) (v .1)
-        (rw (alone k (there k below (record { begun = omega (arith, span k below); lasts = omega arith })) (w .1) e) (eqb-refl j)) in
-        rw (u .2) (omega (arith, past k below (w .1)))
 
     -- the same by a table of the place i, in which the indices of all entries that may stand there are sorted
     pub walk-table : (l n i : ℕ) (p : Option ℕ) {table : List ℕ} → Rising (Sooner word last) table → ((j : ℕ) → In j table → j < m)

@@ -7,6 +7,8 @@
 -- `Compare`: two cards, the second of which allows more.
 -- `Order`, `Indices`: the same walk over indices, marks and a sorted list for each place.
 -- `Runs`: a run under a budget comes to what the definition says.
+-- `Tables`: S1 to S5, from the definitions through one statement over the list.
+-- `Promises`: what is promised of span cards, for a reader.
 pub mod Feasible
 pub mod Tried
 pub mod Reached
@@ -17,3 +19,5 @@ pub mod Compare
 pub mod Order
 pub mod Indices
 pub mod Runs
+pub mod Tables
+pub mod Promises

@@ -1,6 +1,6 @@
 -- What the walk comes to means what it says, and nothing else does. Assumes nothing.
 use mathlib.Core.Path.{_≡_, refl, sym, _∙_, ap}
-use mathlib.Core.Logic.{_⊎_, inl, inr, ⊎-elim, ⊎-map}
+use mathlib.Core.Logic.{_⊎_, ⊎-elim, ⊎-map}
 use mathlib.Core.Bool.{Bool, true, false, cond}
 use mathlib.Core.List.{List, [], _∷_}
 use Prim.Native.Nat.{ℕ, _^_, _≤_, _<_}
@@ -11,7 +11,7 @@ use borrow.Author.Tests.{leb-true, leb-false, le-leb}
 use Rattle.entries.specs.declared.Slot.{Slot}
 use Rattle.sequence.specs.Lists.{In, first, later, Rising, rises}
 use Rattle.sequence.specs.Build.{spell, Build}
-use Rattle.sequence.specs.Verdict.{Before, Verdict, sole, several, noBuild, Tells, Outcome, settled, unsettled}
+use Rattle.sequence.specs.Verdict.{Before, Tells, Outcome, settled, unsettled}
 use Rattle.sequence.proofs.ListLaws.{not-in-nil, in-cons}
 use Rattle.sequence.proofs.OrderLaws.{before-irr}
 use Rattle.sequence.proofs.VerdictLaws.{tells-one}

@@ -8,7 +8,7 @@ use mathlib.Core.Option.{Option}
 use Prim.Native.Nat.{ℕ, _/_, _≤_, _<_}
 use native.Mathlib.Omega.{arith}
 use lib.ListN.{length, getD}
-use lib.Dec.{T, eqb}
+use lib.Dec.{eqb}
 use borrow.Author.Tests.{eqb-true, eqb-false, eq-eqb, ne-eqb}
 use Rattle.answers.proofs.Tests.{both}
 use Rattle.entries.specs.declared.Slot.{Slot}
@@ -17,10 +17,9 @@ use Rattle.sequence.specs.Arrangement.{follows}
 use Rattle.sequence.proofs.ListLaws.{not-in-nil, in-cons, in-keep, keep-in, in-map, map-in, rising-keep}
 use Rattle.sequence.proofs.LetterLaws.{overlap-is, is-overlap}
 use Rattle.spans.specs.Walk.{isCandidate}
-use Rattle.spans.proofs.Feasible.{Allowed}
 use Rattle.spans.proofs.Tried.{Candidate, candidate-of, of-candidate}
 use Rattle.spans.proofs.Builds.{is-true}
-use Rattle.spans.proofs.Indices.{without, without-keep, choiceIn, numbers-in, in-numbers, others-table}
+use Rattle.spans.proofs.Indices.{without, without-keep, choiceIn, numbers-in, in-numbers}
 use Rattle.tables.specs.Prepared.{Prepared, Sooner, listAt}
 use Rattle.tables.proofs.PartLaws.{same-or-not}
 use Rattle.walk.specs.Steps.{isLeft, spanAt, agrees, able, isDue, opened}

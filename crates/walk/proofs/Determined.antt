@@ -13,13 +13,12 @@ use Rattle.entries.specs.declared.Entry.{Entry}
 use Rattle.entries.specs.Entry.{entryOf}
 use Rattle.entries.specs.Fault.{span}
 use Rattle.sequence.specs.Lists.{In}
-use Rattle.sequence.specs.Arrangement.{words}
 use Rattle.sequence.specs.Build.{spell}
 use Rattle.sequence.specs.Verdict.{sole, several, noBuild, Outcome, settled, unsettled}
 use Rattle.sequence.proofs.ListLaws.{in-map}
 use Rattle.sequence.proofs.BuildLaws.{words-length, arrangement-chained}
 use Rattle.sequence.proofs.SpellingLaws.{Chained, spell-one}
-use Rattle.spans.specs.Settling.{spanEntries, Worded, Means}
+use Rattle.spans.specs.Settling.{spanEntries, Worded}
 use Rattle.spans.proofs.Builds.{same-word}
 use Rattle.spans.proofs.Meant.{Entered, means-one}
 use Rattle.walk.specs.declared.Walked.{Walked}

@@ -1,24 +1,22 @@
 -- What holds at the head of the walk's loop, and its laws: a start, a turn, and each way out. Assumes nothing.
 use mathlib.Core.Path.{_≡_, refl, sym, ap, _∙_}
-use mathlib.Core.Logic.{⊎-elim}
 use mathlib.Core.Bool.{Bool, true, false, cond, true≢false}
 use mathlib.Core.List.{List, [], _∷_, _++_, map, foldl}
 use mathlib.Core.Option.{Option, some}
-use Prim.Native.Nat.{ℕ, zero, suc, _+_, _-_, _*_, _^_, _%_, _≤_, _<_}
+use Prim.Native.Nat.{ℕ, _+_, _-_, _≤_, _<_}
 use native.Mathlib.Omega.{arith}
 use native.Mathlib.Numerals.{add-one}
 use lib.ListN.{length, getD, set, length-append, length-set}
 use lib.Seq.{getD-set-same, getD-set-other, set-set, set-getD}
-use lib.Bits.{bitAnd, and-mask}
+use lib.Bits.{bitAnd}
 use lib.Dec.{eqb}
-use borrow.Author.Tests.{eqb-true, eq-eqb}
+use borrow.Author.Tests.{eqb-true}
 use Rattle.spans.specs.Walk.{walk}
-use Rattle.spans.specs.Run.{Run, one, two, spent, reach, run}
-use Rattle.spans.proofs.Runs.{run-spent}
+use Rattle.spans.specs.Run.{Run, spent, reach, run}
 use Rattle.tables.specs.Prepared.{part, listAt}
 use Rattle.sequence.specs.Lists.{In, keep}
 use Rattle.walk.specs.Steps.{isLeft, left, able, isDue, opened, tries, ahead, noWord, Listed, Opened, Next, Placed}
-use Rattle.walk.specs.Going.{Shows, none-yet, one-build, two-builds, stopped, spentState, Ready, Wants, later-on, Sought, Went}
+use Rattle.walk.specs.Going.{Shows, none-yet, one-build, two-builds, stopped, spentState, Ready, later-on, Sought, Went}
 use Rattle.walk.proofs.StepLaws.{in-part, list-is, opened-list, ahead-at}
 use Rattle.walk.proofs.Candidates.{Place, Alone, opened-alone, opened-below}
 use Rattle.walk.proofs.RunLaws.{shows-prefix, shows-spent, shows-reach}

@@ -4,23 +4,20 @@ use mathlib.Core.Path.{_≡_, refl, sym, ap, _∙_}
 use mathlib.Core.Logic.{⊎-elim}
 use mathlib.Core.Bool.{Bool, true, false, cond, _&&_, not}
 use mathlib.Core.List.{List, [], _∷_, _++_, map, foldl}
-use mathlib.Core.Option.{Option, some}
-use Prim.Native.Nat.{ℕ, suc, _+_, _-_, _^_, _≤_, _<_}
+use Prim.Native.Nat.{ℕ, suc, _+_, _-_, _<_}
 use native.Mathlib.Omega.{arith}
 use native.Mathlib.Numerals.{add-one}
-use lib.ListN.{length, getD, set, take, length-append, length-set}
+use lib.ListN.{length, set, take, length-append, length-set}
 use lib.Seq.{take-all, take-take, take-at, take-suc-set, getD-set-same, getD-set-other}
-use lib.Dec.{eqb, leb}
-use borrow.Author.Tests.{eqb-true, eqb-false, eq-eqb, ne-eqb, le-leb, lt-leb}
+use lib.Dec.{eqb}
+use borrow.Author.Tests.{eqb-true, eqb-false, ne-eqb, le-leb, lt-leb}
 use Rattle.sequence.specs.Lists.{In, first, later, keep, numbers}
-use Rattle.sequence.proofs.ListLaws.{in-cons, in-keep}
-use Rattle.spans.specs.Walk.{walk}
-use Rattle.spans.specs.Run.{Run, searching, one, two, spent, reach, run}
+use Rattle.sequence.proofs.ListLaws.{in-cons}
+use Rattle.spans.specs.Run.{Run, searching, one, two, spent, reach}
 use Rattle.spans.proofs.Order.{firsts, firstsAfter}
-use Rattle.spans.proofs.Runs.{run-two, run-spent}
-use Rattle.walk.specs.Steps.{isLeft, spanAt, left, tries, noWord, Placed}
+use Rattle.walk.specs.Steps.{isLeft, spanAt, left, tries, Placed}
 use Rattle.walk.specs.Going.{Shows, none-yet, one-build, two-builds, stopped}
-use Rattle.walk.proofs.KeepLaws.{same-test, keep-same}
+use Rattle.walk.proofs.KeepLaws.{keep-same}
 
 -- ---- folds
 

@@ -5,23 +5,21 @@ use mathlib.Core.Logic.{inl, inr, ⊎-elim}
 use mathlib.Core.Bool.{Bool, _&&_, not}
 use mathlib.Core.List.{List, [], _∷_, _++_, map, foldl}
 use mathlib.Core.Option.{Option, some}
-use Prim.Native.Nat.{ℕ, suc, _+_, _-_, _≤_, _<_}
+use Prim.Native.Nat.{ℕ, suc, _+_, _-_, _<_}
 use native.Mathlib.Omega.{arith}
 use native.Mathlib.Numerals.{add-one}
 use lib.ListN.{length, getD, set}
 use lib.Dec.{eqb}
 use Rattle.entries.specs.declared.Slot.{Slot}
-use Rattle.sequence.specs.Lists.{In, Rising, flat, rises, keep, numbers}
-use Rattle.sequence.proofs.ListLaws.{not-in-nil, in-cons, in-keep}
-use Rattle.spans.specs.Walk.{walk, isCandidate}
+use Rattle.sequence.specs.Lists.{Rising, flat, rises, keep, numbers}
+use Rattle.spans.specs.Walk.{walk}
 use Rattle.spans.specs.Run.{Run, two, spent, reach, run}
 use Rattle.spans.proofs.Order.{firsts}
 use Rattle.spans.proofs.Order as order
-use Rattle.spans.proofs.Indices.{choiceIn}
 use Rattle.spans.proofs.Runs.{run-place, run-two, run-spent}
 use Rattle.tables.specs.Prepared.{Sooner, listAt}
 use Rattle.walk.specs.Steps.{isLeft, spanAt, left, able, isDue, opened, tries, ahead, noWord, Opened, Next}
-use Rattle.walk.specs.Going.{Wants, Shows, one-build, none-yet, two-builds, stopped}
+use Rattle.walk.specs.Going.{Wants}
 use Rattle.walk.proofs.StepLaws.{opened-list}
 use Rattle.walk.proofs.Candidates.{Place, candidates, opened-below}
 use Rattle.walk.proofs.RunLaws.{fold-same, tries-in, tries-firsts, left-marked}

@@ -1,12 +1,10 @@
 -- The whole walk: where every entry is left and no word stands yet, the run of the code is the run of the definition, and what it comes to
 -- means what it says. Assumes nothing.
 use mathlib.Core.Path.{_≡_, refl, sym, ap, _∙_}
-use mathlib.Core.Bool.{true}
 use mathlib.Core.List.{List, [], _∷_, _++_, map}
 use mathlib.Core.Option.{none}
 use Prim.Native.Nat.{ℕ, zero, suc, _+_, _-_, _^_, _≤_, _<_}
 use native.Mathlib.Omega.{arith}
-use native.Mathlib.Numerals.{add-one}
 use lib.ListN.{length, getD, take, length-map}
 use lib.Seq.{getD-take, length-take-le}
 use borrow.Author.Tests.{eq-eqb}
@@ -15,21 +13,20 @@ use Rattle.answers.proofs.RowLaws.{row-none, row-first, length-row}
 use Rattle.entries.specs.declared.Slot.{Slot}
 use Rattle.entries.specs.Slot.{slotFrom}
 use Rattle.entries.proofs.SlotLaws.{slot-from}
-use Rattle.sequence.specs.Lists.{In, first, later, keep, numbers}
-use Rattle.sequence.specs.Verdict.{Outcome}
+use Rattle.sequence.specs.Lists.{keep, numbers}
 use Rattle.sequence.proofs.ListLaws.{in-map}
 use Rattle.spans.specs.Walk.{walk, walked}
-use Rattle.spans.specs.Settling.{Means, Worded, outcome}
-use Rattle.spans.specs.Run.{Run, searching, one, two, spent, run, comeTo}
+use Rattle.spans.specs.Settling.{Means, Worded}
+use Rattle.spans.specs.Run.{Run, searching, run, comeTo}
 use Rattle.spans.proofs.Meant.{Entered, outcome-means}
 use Rattle.spans.proofs.Indices.{numbers-in, length-numbers}
-use Rattle.spans.proofs.Runs.{Keeps, keeps-none, keeps-one, keeps-two, keeps-spent, run-answers, run-worded}
+use Rattle.spans.proofs.Runs.{Keeps, keeps-one, keeps-two, run-answers, run-worded}
 use Rattle.tables.specs.Spans.{Spans}
 use Rattle.tables.specs.Prepared.{Prepared}
 use Rattle.tables.proofs.PartLaws.{Filling, filling-all}
 use Rattle.walk.specs.Steps.{isLeft, spanAt, left, Unmarked, walkedAt}
-use Rattle.walk.specs.Going.{Shows, none-yet, one-build, two-builds, stopped, Ready, Wants, at-first, Sought, Went}
-use Rattle.walk.specs.Walked.{entriesIn, saysWalked, Walks}
+use Rattle.walk.specs.Going.{Shows, none-yet, one-build, two-builds, stopped, Ready, at-first, Went}
+use Rattle.walk.specs.Walked.{entriesIn, Walks}
 use Rattle.walk.proofs.SpanLaws.{spans-rise}
 
 -- ---- every entry is left

@@ -1,9 +1,9 @@
 -- `walk_lists` meets its contract: the lists first, then the room, then the walk. Assumes nothing.
-use mathlib.Core.Path.{_≡_, refl, sym}
+use mathlib.Core.Path.{_≡_, refl}
 use native.Mathlib.Omega.{arith}
 use lib.ListN.{length, length-take}
 use borrow.Author.Needs.{needs}
-use Rattle.answers.specs.Answer.{first, given, Sound, sound}
+use Rattle.answers.specs.Answer.{first, given, sound}
 use Rattle.answers.proofs.Laws.{told-holds, told-refused}
 use Rattle.entries.specs.Fault.{span}
 use Rattle.layout.specs.Bounds.{mostEntries}

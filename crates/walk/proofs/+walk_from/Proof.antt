@@ -1,5 +1,5 @@
 use Prim.Native.Nat.{ℕ, _+_, _-_, _<_}
-use mathlib.Core.Path.{_≡_, sym, ap, _∙_}
+use mathlib.Core.Path.{sym, ap, _∙_}
 use Rattle.tables.specs.Prepared.{part}
 use Rattle.walk.specs.Steps.{able, tries}
 use Rattle.walk.specs.Going.{Ready}

@@ -4,7 +4,6 @@ use mathlib.Core.Path.{sym, _∙_}
 use mathlib.Core.Logic.{⊎-elim}
 use native.Mathlib.Omega.{arith}
 use lib.ListN.{length, getD}
-use borrow.Author.Needs.{needs}
 use Rattle.walk.proofs.StepLaws.{Seen, seen-none, seen-not, seen-first, seen-second, seen-one, seen-all}
 use Rattle.walk.proofs.due.Statement.{statement}
 use Rattle.walk.proofs.due.Tie as tie
