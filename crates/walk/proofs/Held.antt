@@ -285,6 +285,10 @@ module _ {words twos starts slots marks₀ kept₀ marks kept kept′ : List ℕ
     pub still-marked : e < length marks′
     still-marked = omega (arith, ap length (went .unmarked), length-set marks e 1, marked)
 
+    -- whatever is marked there, there are as many marks
+    pub marks-kept : (x : ℕ) → length (set marks′ e x) ≡ length marks₀
+    marks-kept x = length-set marks′ e x ∙ ap length (went .unmarked) ∙ length-set marks e 1 ∙ ap length (held .unmarked)
+
     unmarked-again : set marks′ e 0 ≡ marks₀
     unmarked-again =
         ap (λ (l : List ℕ). set l e 0) (went .unmarked) ∙ set-set marks e 1 0 ∙ ap (set marks e) (sym zero-there)

@@ -147,14 +147,15 @@ fn placed_at(i: usize, m: usize, t: Tally) -> Tally
     requires { ⌜ (i < m) × (t .placed < 4294967295) × (t .state < 2) ⌝ }
     ensures { λ r. ⌜ Placed i m (t .placed) (t .state) (r .placed) (r .state) ⌝ }
 {
+    let placed = t.placed + 1;
     if i + 1 == m {
         Tally {
-            placed: t.placed + 1,
+            placed,
             state: t.state + 1,
         }
     } else {
         Tally {
-            placed: t.placed + 1,
+            placed,
             state: t.state,
         }
     }

@@ -1,12 +1,12 @@
 use Prim.Native.Nat.{ℕ, _+_, _-_, _<_}
-use mathlib.Core.Path.{sym, ap, _∙_}
+use mathlib.Core.Path.{_≡_, sym, ap, _∙_}
 use Rattle.tables.specs.Prepared.{part}
 use Rattle.walk.specs.Steps.{able, tries}
 use Rattle.walk.specs.Going.{Ready}
 use native.Mathlib.Omega.{arith}
 use lib.ListN.{length, getD, set}
 use borrow.Author.Needs.{needs}
-use Rattle.walk.proofs.Held.{Held, Looping, Turning, still-marked, looping-turn, ready-end, held-start, open-start, listed-start, held-spent, held-at, held-end, held-over, held-next, held-turn, open-next, ready-below}
+use Rattle.walk.proofs.Held.{Held, Looping, Turning, still-marked, marks-kept, looping-turn, ready-end, held-start, open-start, listed-start, held-spent, held-at, held-end, held-over, held-next, held-turn, open-next, ready-below}
 use Rattle.walk.proofs.StepLaws.{listed-open, listed-on, ahead-none}
 use borrow.Fn.Kinds.{In}
 use borrow.Fn.PlainCycle.{Measures, is, falls, and}
@@ -169,6 +169,13 @@ module _ (t : ℕ) (c : Called t) where
       held-turn (ready t asked) (at .held) (inv .inside) (at .low) (at .free) (inv .going) (room t tries-it) (keeps .keep-word .ensures)
       (counts .placed-at .ensures) (c .walk-from .ensures)
 
+  kept-all : (x : ℕ) → length (set (c .walk-from .last .1 .1 .1 .1 .0) (tries-it .at16 .result) x) ≡ length (asked .args .marks .now)
+  kept-all =
+      let inv = tries-it .before .before .before .before .loop .inv in
+      let at = turning t tries-it in
+      marks-kept (ready t asked) (at .held) (inv .inside) (at .low) (at .free) (inv .going) (room t tries-it) (keeps .keep-word .ensures)
+      (counts .placed-at .ensures) (c .walk-from .ensures)
+
 walk-from-returns : (t : ℕ) → walk-from-lts.Need-returns (calls t) (walk-from-at t) walk-from.Post walk-from-Inv-loop walk-from-μ-loop
 walk-from-returns t c = ready-end (ready t (c .before .before .before .before .before .before .before)) _ _ (c .if1 .taken)
 
@@ -273,7 +280,7 @@ walk-from-slice-write-marks-2 t c =
     (keeps t at .keep-word .ensures) (counts t at .placed-at .ensures) (at .walk-from .ensures)
 
 walk-from-same-length-3 : (t : ℕ) → walk-from-lts.Need-same-length-3 (calls t) (walk-from-at t) walk-from.Post walk-from-Inv-loop walk-from-μ-loop
-walk-from-same-length-3 t c = ap length (turned t (called t (c .before .before)) .unmarked)
+walk-from-same-length-3 t c = kept-all t (called t (c .before .before)) _
 
 walk-from-same-length-4 : (t : ℕ) → walk-from-lts.Need-same-length-4 (calls t) (walk-from-at t) walk-from.Post walk-from-Inv-loop walk-from-μ-loop
 walk-from-same-length-4 t c = turned t (called t (c .before .before)) .firsts
@@ -291,7 +298,7 @@ walk-from-next-requires-2 : (t : ℕ) → walk-from-lts.Need-next-requires-2 (ca
 walk-from-next-requires-2 t c κs =
     let at = called t (c .before .before .before) in
     let inv = tries-it t at .before .before .before .before .loop .inv in
-    (listed-on (inv .open-slots .listed), ap length (turned t at .unmarked) ∙ ready t (asked t at) .marks-all)
+    (listed-on (inv .open-slots .listed), kept-all t at _ ∙ ready t (asked t at) .marks-all)
 
 walk-from-loop-less : (t : ℕ) → walk-from-lts.Need-loop-less (calls t) (walk-from-at t) walk-from.Post walk-from-Inv-loop walk-from-μ-loop
 walk-from-loop-less t c =
