@@ -16,7 +16,7 @@ use Rattle.entries.specs.Fault.{span}
 use Rattle.layout.specs.Bounds.{mostEntries}
 use Rattle.lists.specs.Lists.{listsTests}
 use Rattle.lists.proofs.SpanLaws.{lists-span}
-use Rattle.spans.proofs.Meant.{Entered}
+use Rattle.spans.specs.Settling.{Entered}
 use Rattle.walk.specs.declared.Walked.{Walked}
 use Rattle.walk.specs.declared.Walked.the-variants.{Sole, Several, None, Unsettled}
 use Rattle.walk.specs.Walked.{entriesIn, GivesBuild}
@@ -30,7 +30,7 @@ use Rattle.builds.proofs.walk_lists.Kinds as walk-lists
 use Rattle.builds.proofs.walk_lists.Reads as walk-lists-reads
 
 -- entries whose tests hold are admitted
-admitted : (l room : ℕ) (words ones twos : List ℕ) → first (walkTests l words ones twos room) sound ≡ given sound
+pub admitted : (l room : ℕ) (words ones twos : List ℕ) → first (walkTests l words ones twos room) sound ≡ given sound
     → Entered l (entriesIn words ones twos)
 unfolding walkTests
 admitted l room words ones twos e =

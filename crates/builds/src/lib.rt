@@ -1,8 +1,9 @@
 // Building over lists: the tests of the lists and of the output, then the method. `walk_lists` has no `requires`: it tests its own input.
 ghost use mathlib.Core.Path.{_≡_};
+ghost use Prim.Native.Nat.{_≤_};
 ghost use lib.ListN.{length};
 ghost use Rattle.layout.specs.Bounds.{mostEntries};
-ghost use Rattle.lists.proofs.SpanLaws.{SpanLists};
+ghost use Rattle.tables.specs.Spans.{Spans};
 ghost use Rattle.walk.specs.Walked.{entriesIn};
 ghost use Rattle.builds.specs.Walking.{wordsAfter, WalksInto, Answered};
 use answers::Held;
@@ -53,8 +54,8 @@ fn walk_into(
     budget: u32,
     out: &mut [u32],
 ) -> Walked
-    requires { ⌜ SpanLists mostEntries l (now words) (now ones) (now twos) ⌝ }
-    requires { ⌜ length (now out) ≡ length (now words) ⌝ }
+    requires { ⌜ Spans l (now words) (now ones) (now twos) ⌝ }
+    requires { ⌜ (length (now words) ≤ mostEntries) × (length (now out) ≡ length (now words)) ⌝ }
     ensures { λ r. ⌜
         WalksInto l (entriesIn (now (words .entry)) (now (ones .entry)) (now (twos .entry))) budget r (now (out .entry)) (now (out .exit))
         ⌝ }

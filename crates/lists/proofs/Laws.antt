@@ -94,7 +94,8 @@ module _ {limit kind l : ℕ} {words ones twos : List ℕ} where
         count = count .0;
         entries = λ i h.
             let here : 0 + i ≡ i = omega arith in
-            rw here at (turns-held (λ j. entryTests (formatFor kind l words) j (slotFrom words ones twos j)) (length words) 0 i (count .1) h);
+            rw here at (turns-held (λ j. entryTests (formatFor kind l words) j (slotFrom words ones twos j)) (length words) 0 i
+            (count .1) h);
       }
 
   pub accepted-lists : Accepted limit kind l words ones twos → first (listsTests limit kind l words ones twos) sound ≡ given sound

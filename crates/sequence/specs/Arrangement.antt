@@ -1,6 +1,6 @@
 -- Arrangements (01, "What a build is"), on pair cards and on span cards alike: an entry is a word with its allowed places.
 --   overlaps l v w         == the last l−1 letters of v are the first l−1 of w
---   Follows l p w          == w can stand after p, the word before it, if there is one
+--   follows l p w          == w can stand after p, the word before it, if there is one
 --   Standing l i p es      == the entries es can stand at the places i, i + 1, …, after p
 --   Arrangement l es order == `order` has the entries es in the order of their places
 --   words es               == the words of the entries, in order

@@ -78,8 +78,13 @@ feasible-standing (stop {left = []} h) n = ([], empty, nobody, refl)
 feasible-standing (stop {left = e ∷ left} h) n = absurd (omega arith)
 feasible-standing {l} (step {i} {p} {e = own} {w} t e a f more) n =
     let s = feasible-standing more (omega (arith, length-taken t)) in
-    let same : entryOf span own .word ≡ w = same-word own ∙ e in
-    (own ∷ s .0, next t (s .1), stands {p = p} {e = entryOf span own} {es = spanEntries (s .0)} (allowed-is own i a) (rw same (is-true _ f)) (rw same (s .2)), cc)
+    let same : entryOf span own .word ≡ w = same-word own ∙ e in (
+      own ∷ s .0,
+      next t (s .1),
+      stands {p = p} {e = entryOf span own} {es = spanEntries (s .0)} (allowed-is own i a) (rw same
+          (is-true _ f)) (rw same (s .2)),
+      cc,
+    )
 
 module _ {l : ℕ} {es : List Slot} where
   pub complete-worded : {ws : List ℕ} → Complete l es ws → Worded l es ws

@@ -24,7 +24,8 @@ feasible-fits : {l i k : ℕ} {p : Option ℕ} {left : List Slot} {ws : List ℕ
     → (w : ℕ) → In w ws → w < k
 feasible-fits fit (stop h) w m = absurd (not-in-nil m)
 feasible-fits fit (step {e = own} t e a f more) w m =
-    ⊎-elim (λ q. let h = fit own (taken-is-in t) in omega (arith, q, e)) (λ g. feasible-fits (λ d h. fit d (in-left t h)) more w g) (in-cons m)
+    ⊎-elim (λ q. let h = fit own (taken-is-in t) in omega (arith, q, e))
+    (λ g. feasible-fits (λ d h. fit d (in-left t h)) more w g) (in-cons m)
 
 module _ {l : ℕ} {es : List Slot} (fit : (e : Slot) → In e es → e .word < 4 ^ l) where
   complete-chained : {ws : List ℕ} → Complete l es ws → Chained l ws

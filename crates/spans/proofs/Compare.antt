@@ -20,12 +20,11 @@ use Rattle.sequence.proofs.OrderLaws.{before-irr}
 use Rattle.sequence.proofs.VerdictLaws.{tells-no-later}
 use Rattle.sequence.proofs.WiderLaws.{build-wider, paired-length}
 use Rattle.spans.specs.Walk.{walked, builds, upTo, placements}
-use Rattle.spans.specs.Settling.{spanEntries, Means, settles, goes-on, Later, Narrowed}
+use Rattle.spans.specs.Settling.{spanEntries, Entered, Means, settles, goes-on, NoLaterIf, Narrowed}
 use Rattle.spans.proofs.Feasible.{Wider, feasible-wider}
 use Rattle.spans.proofs.Builds.{same-word, allowed-is, is-allowed, Complete, complete-build, builds-sound}
 use Rattle.spans.proofs.Builds.{walked-feasible, feasible-walked, walked-some, walked-rising, builds-rising}
 use Rattle.spans.proofs.Chains.{complete-one}
-use Rattle.spans.proofs.Meant.{Entered}
 
 -- ---- placements
 
@@ -107,7 +106,7 @@ module _ {l : ℕ} {es es′ : List Slot} (entered : Entered l es) (entered′ :
   more s b = build-wider pairs b
 
   -- "a build on the first means one on the second, alphabetically no later; several stays several"
-  pub means-later : {b c : ℕ} {o o′ : Outcome} → Means l es b o → Means l es′ c o′ → Later o o′
+  pub means-later : {b c : ℕ} {o o′ : Outcome} → Means l es b o → Means l es′ c o′ → NoLaterIf o o′
   means-later (settles {v} a b t) (settles {v = v′} c d u) =
       tells-no-later (Build l (spanEntries es)) (Build l (spanEntries es′)) more v v′ t u
   means-later (settles a b t) (goes-on c d) = tt

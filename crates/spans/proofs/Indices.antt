@@ -45,7 +45,8 @@ module _ {A B : Type 0} where
   keep-map test f (x ∷ l) = go (test (f x)) (keep-map test f l)
     where
       go : (t : Bool) → keep test (map f l) ≡ map f (keep (λ y. test (f y)) l)
-          → cond t (f x ∷ keep test (map f l)) (keep test (map f l)) ≡ map f (cond t (x ∷ keep (λ y. test (f y)) l) (keep (λ y. test (f y)) l))
+          → cond t (f x ∷ keep test (map f l)) (keep test (map f l))
+          ≡ map f (cond t (x ∷ keep (λ y. test (f y)) l) (keep (λ y. test (f y)) l))
       go true e = ap (λ r. f x ∷ r) e
       go false e = e
 
@@ -58,7 +59,8 @@ module _ {A B : Type 0} where
         (leb (last (f c)) (last (f d))) (insert-map c l)
       where
         go : {r : List B} (q : List A) (s t u : Bool) → r ≡ map f q
-            → cond s (f c ∷ f d ∷ map f l) (cond t (f d ∷ r) (cond u (f c ∷ map f l) (f d ∷ map f l))) ≡ map f (cond s (c ∷ d ∷ l) (cond t (d ∷ q) (cond u (c ∷ l) (d ∷ l))))
+            → cond s (f c ∷ f d ∷ map f l) (cond t (f d ∷ r) (cond u (f c ∷ map f l) (f d ∷ map f l)))
+            ≡ map f (cond s (c ∷ d ∷ l) (cond t (d ∷ q) (cond u (c ∷ l) (d ∷ l))))
         go q true t u e = refl
         go q false true u e = ap (λ x. f d ∷ x) e
         go q false false true e = refl

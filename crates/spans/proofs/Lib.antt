@@ -3,6 +3,7 @@
 -- `Reached`: it reaches the feasible lists of words and no others, in alphabetical order.
 -- `Builds`: the builds that it completes are the builds of the card, each once.
 -- `Chains`: builds compare as the sequences that they spell.
+-- `Paths`: the completed paths spell exactly the builds, each once, in alphabetical order.
 -- `Meant`: what the walk comes to means what it says, and nothing else does.
 -- `Compare`: two cards, the second of which allows more.
 -- `Order`, `Indices`: the same walk over indices, marks and a sorted list for each place.
@@ -14,6 +15,7 @@ pub mod Tried
 pub mod Reached
 pub mod Builds
 pub mod Chains
+pub mod Paths
 pub mod Meant
 pub mod Compare
 pub mod Order

@@ -5,7 +5,6 @@ use mathlib.Core.Bool.{Bool, true, false, cond}
 use mathlib.Core.List.{List, [], _∷_}
 use Prim.Native.Nat.{ℕ, _^_, _≤_, _<_}
 use native.Mathlib.Omega.{arith}
-use lib.ListN.{length}
 use lib.Dec.{leb}
 use borrow.Author.Tests.{leb-true, leb-false, le-leb}
 use Rattle.entries.specs.declared.Slot.{Slot}
@@ -16,15 +15,9 @@ use Rattle.sequence.proofs.ListLaws.{not-in-nil, in-cons}
 use Rattle.sequence.proofs.OrderLaws.{before-irr}
 use Rattle.sequence.proofs.VerdictLaws.{tells-one}
 use Rattle.spans.specs.Walk.{builds, placements}
-use Rattle.spans.specs.Settling.{spanEntries, verdictOn, outcome, Means, settles, goes-on}
+use Rattle.spans.specs.Settling.{Entered, spanEntries, verdictOn, outcome, Means, settles, goes-on}
 use Rattle.spans.proofs.Builds.{Complete, build-complete, complete-build, builds-sound, builds-complete, builds-rising}
 use Rattle.spans.proofs.Chains.{complete-before}
-
--- entries that the entry rules admit: there is one, and each word has l letters
-pub record Entered (l : ℕ) (es : List Slot) : Type 0 where
-  pub some-entry : 0 < length es
-  pub fits : (e : Slot) → In e es → e .word < 4 ^ l
-  pub spans : (e : Slot) → In e es → e .one ≤ e .two
 
 module _ {l : ℕ} {es : List Slot} (entered : Entered l es) where
   abbrev fit : (e : Slot) → In e es → e .word < 4 ^ l

@@ -1,30 +1,31 @@
 -- What is promised of span cards, over lists, for a reader: each statement is proved by a citation. What the words mean stands in
 -- specs/Walk and specs/Settling here, and in specs/Arrangement, specs/Build and specs/Verdict of `sequence`. Assumes nothing.
 use mathlib.Core.Path.{_≡_}
-use mathlib.Core.List.{List}
+use mathlib.Core.List.{List, map}
 use mathlib.Core.Logic.{_↔_}
-use Prim.Native.Nat.{ℕ, _≤_, _<_}
+use Prim.Native.Nat.{ℕ, _≤_}
 use lib.ListN.{length}
 use Rattle.entries.specs.declared.Slot.{Slot}
 use Rattle.sequence.specs.Lists.{In, Paired, Rising}
+use Rattle.sequence.specs.Build.{spell, Build}
 use Rattle.sequence.specs.Verdict.{Before, Widens, Verdict, Outcome, settled}
 use Rattle.spans.specs.Walk.{walked, builds}
-use Rattle.spans.specs.Settling.{spanEntries, Worded, outcome, Means, Later, Narrowed}
-use Rattle.spans.proofs.Builds.{builds-sound, builds-complete, builds-rising, complete-worded, worded-complete}
-use Rattle.spans.proofs.Meant.{Entered, outcome-means, means-one}
+use Rattle.spans.specs.Settling.{spanEntries, Entered, outcome, Means, NoLaterIf, Narrowed}
+use Rattle.spans.proofs.Paths.{path-build, build-path, paths-rising}
+use Rattle.spans.proofs.Meant.{outcome-means, means-one}
 use Rattle.spans.proofs.Compare.{walked-fewer, means-later, means-narrowed, means-larger}
 
 -- ---- demand 2
 
--- the completed paths of the walk are exactly the builds, by their words
-pub paths-are-builds : (l : ℕ) (es : List Slot) → 0 < length es → (ws : List ℕ) → In ws (builds l es) ↔ Worded l es ws
-paths-are-builds l es h ws = (λ i. complete-worded (builds-sound l es i), λ w. builds-complete l es h (worded-complete w))
-
--- in alphabetical order, each once
-pub paths-rise : (l : ℕ) (es : List Slot) → Rising Before (builds l es)
-paths-rise = builds-rising
-
 module _ {l : ℕ} {es : List Slot} (admitted : Entered l es) where
+  -- the completed paths of the walk spell exactly the builds
+  pub paths-are-builds : (s : List ℕ) → In s (map (spell l) (builds l es)) ↔ Build l (spanEntries es) s
+  paths-are-builds s = (path-build admitted, build-path admitted)
+
+  -- in alphabetical order, each once
+  pub paths-rise : Rising Before (map (spell l) (builds l es))
+  paths-rise = paths-rising admitted
+
   -- what the walk comes to is true of all builds: none, the sole one, or several and the alphabetically first; or it is unsettled exactly
   -- beyond the budget
   pub outcome-is-true : (budget : ℕ) → Means l es budget (outcome l es budget)
@@ -47,7 +48,7 @@ module _ {l : ℕ} {es es′ : List Slot} (first : Entered l es) (second : Enter
   narrower-shorter = walked-fewer first second pairs
 
   -- "If both settle, a build on the first means one on the second, alphabetically no later; several stays several."
-  pub wider-no-later : (b c : ℕ) → Later (outcome l es b) (outcome l es′ c)
+  pub wider-no-later : (b c : ℕ) → NoLaterIf (outcome l es b) (outcome l es′ c)
   wider-no-later b c = means-later first second pairs (outcome-means first b) (outcome-means second c)
 
   -- "If a budget settles the second as sole or none, it settles the first in no more placements, as none or that same sole sequence."

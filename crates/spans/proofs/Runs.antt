@@ -150,7 +150,8 @@ pub data Keeps (P : List ℕ → Type 0) : Run → Type 0 where
   keeps-two : {ws : List ℕ} {n : ℕ} → P ws → Keeps P (two ws n)
   keeps-spent : Keeps P spent
 
-reach-keeps : (P : List ℕ → Type 0) (m budget : ℕ) {r : Run} (ws : List ℕ) → (length ws ≡ m → P ws) → Keeps P r → Keeps P (reach m budget r ws)
+reach-keeps : (P : List ℕ → Type 0) (m budget : ℕ) {r : Run} (ws : List ℕ) → (length ws ≡ m → P ws) → Keeps P r
+    → Keeps P (reach m budget r ws)
 unfolding reach
 reach-keeps P m budget ws h (keeps-none {n}) = go (leb budget n) (eqb (length ws) m) refl
   where
@@ -167,7 +168,8 @@ reach-keeps P m budget ws h (keeps-one {ws = vs} {n} p) = go (leb budget n) (eqb
 reach-keeps P m budget ws h (keeps-two p) = keeps-two p
 reach-keeps P m budget ws h keeps-spent = keeps-spent
 
-run-keeps : (P : List ℕ → Type 0) (m budget : ℕ) (reached : List (List ℕ)) {r : Run} → ((ws : List ℕ) → In ws reached → length ws ≡ m → P ws)
+run-keeps : (P : List ℕ → Type 0) (m budget : ℕ) (reached : List (List ℕ)) {r : Run}
+    → ((ws : List ℕ) → In ws reached → length ws ≡ m → P ws)
     → Keeps P r
     → Keeps P (run m budget r reached)
 unfolding run

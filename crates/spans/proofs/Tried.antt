@@ -120,7 +120,8 @@ module _ {A : Type 0} (word last : A → ℕ) where
           → (In x (insert word last c ds)
           → ((x ≡ c) × ((e : A) → In e ds → word e ≡ word c → last c ≤ last e)) ⊎ (In x ds × (word x ≡ word c → last x < last c)))
           → Inserted c d ds r → In x r
-          → ((x ≡ c) × ((e : A) → In e (d ∷ ds) → word e ≡ word c → last c ≤ last e)) ⊎ (In x (d ∷ ds) × (word x ≡ word c → last x < last c))
+          → ((x ≡ c) × ((e : A) → In e (d ∷ ds) → word e ≡ word c → last c ≤ last e)) ⊎
+          (In x (d ∷ ds) × (word x ≡ word c → last x < last c))
       go more (before w) h =
           ⊎-map (λ q. (q, λ e m s. absurd (omega (arith, at-least e m)))) (λ m. (m, λ s. absurd (omega (arith, at-least x m)))) (in-cons h)
       go more (after w) h =

@@ -1,21 +1,24 @@
 -- What is answered on a span card under a budget, and what it means (01, "The walk on span cards", and demands 2 and 3).
 --   spanEntries es           == the entries of a span card, with their allowed places
+--   Entered l es             == entries that the entry rules admit: there is one, each word has l letters, each span is one
 --   Worded l es ws           == ws are the words of an arrangement of the entries, in order
 --   verdictOn l bs           == the verdict by the builds bs in their order
 --   outcome l es budget      == what the walk comes to
 --   Means l es budget o      == the outcome o is true, over all builds
---   Settles, Narrowed        == what demand 3 says of two outcomes
+--   NoLaterIf, Narrowed      == what demand 3 says of two outcomes
 -- Assumes nothing.
 use mathlib.Core.Path.{_≡_}
 use mathlib.Core.Logic.{_⊎_}
 use mathlib.Core.Bool.{cond}
 use mathlib.Core.List.{List, [], _∷_, map}
-use Prim.Native.Nat.{ℕ, _≤_, _<_}
+use Prim.Native.Nat.{ℕ, _^_, _≤_, _<_}
+use lib.ListN.{length}
 use lib.Dec.{leb}
 use Rattle.entries.specs.declared.Slot.{Slot}
 use Rattle.entries.specs.declared.Entry.{Entry}
 use Rattle.entries.specs.Fault.{span}
 use Rattle.entries.specs.Entry.{entryOf}
+use Rattle.sequence.specs.Lists.{In}
 use Rattle.sequence.specs.Arrangement.{Arrangement, words}
 use Rattle.sequence.specs.Build.{spell, Build}
 use Rattle.sequence.specs.Verdict.{Verdict, sole, several, noBuild, Tells, Outcome, settled, unsettled, NoLater}
@@ -24,6 +27,12 @@ use Rattle.spans.specs.Walk.{builds, placements}
 abbrev pub spanEntries : List Slot → List Entry
 spanEntries es = map (entryOf span) es
 
+pub record Entered (l : ℕ) (es : List Slot) : Type 0 where
+  pub some-entry : 0 < length es
+  pub fits : (e : Slot) → In e es → e .word < 4 ^ l
+  pub spans : (e : Slot) → In e es → e .one ≤ e .two
+
+-- an arrangement, by its words
 pub record Worded (l : ℕ) (es : List Slot) (ws : List ℕ) : Type 0 where
   pub order : List Entry
   pub arrangement : Arrangement l (spanEntries es) order
@@ -48,10 +57,10 @@ pub data Means (l : ℕ) (es : List Slot) (budget : ℕ) : Outcome → Type 0 wh
 -- ---- demand 3
 
 -- "If both settle, a build on the first means one on the second, alphabetically no later; several stays several."
-abbrev pub Later : Outcome → Outcome → Type 0
-Later (settled v n) (settled v′ n′) = NoLater v v′
-Later (settled v n) (unsettled n′) = Unit {0}
-Later (unsettled n) o = Unit {0}
+abbrev pub NoLaterIf : Outcome → Outcome → Type 0
+NoLaterIf (settled v n) (settled v′ n′) = NoLater v v′
+NoLaterIf (settled v n) (unsettled n′) = Unit {0}
+NoLaterIf (unsettled n) o = Unit {0}
 
 -- "If a budget settles the second as sole or none, it settles the first in no more placements, as none or that same sole sequence."
 abbrev pub Narrowed : Outcome → Outcome → Type 0

@@ -1,4 +1,5 @@
--- Who is a candidate at a place, by the place's list alone: those that are left and agree, out of all of it, the one that is due, or nothing
+-- Who is a candidate at a place, by the place's list alone: those that are left and agree, out of all of it, the one that is due, or
+-- nothing
 -- where several are due. It holds where no entry that is left ends before the place. Assumes nothing.
 use mathlib.Core.Path.{_≡_, refl, sym, ap, _∙_}
 use mathlib.Core.Logic.{_⊎_, inl, inr, ⊎-elim}
@@ -84,7 +85,8 @@ module _ {i : ℕ} {words ones twos starts slots marks : List ℕ} (place : Plac
   -- where j is the only one that is due, or none is
   only-alone : (j : ℕ) → ((k : ℕ) → In k dues → k ≡ j) → Alone i words twos marks j
   only-alone j only = record {
-    others = λ k below free n. ⊎-elim (λ e. absurd (n (only k (ends-due k below free (sym e))))) (λ h. h) (equal-or-less (place .past k below free));
+    others = λ k below free n. ⊎-elim (λ e. absurd (n (only k (ends-due k below free (sym e))))) (λ h. h)
+        (equal-or-less (place .past k below free));
   }
     where
       equal-or-less : {a b : ℕ} → a ≤ b → (a ≡ b) ⊎ (a < b)

@@ -18,9 +18,9 @@ use Rattle.sequence.specs.Verdict.{sole, several, noBuild, Outcome, settled, un
 use Rattle.sequence.proofs.ListLaws.{in-map}
 use Rattle.sequence.proofs.BuildLaws.{words-length, arrangement-chained}
 use Rattle.sequence.proofs.SpellingLaws.{Chained, spell-one}
-use Rattle.spans.specs.Settling.{spanEntries, Worded}
+use Rattle.spans.specs.Settling.{Entered, spanEntries, Worded}
 use Rattle.spans.proofs.Builds.{same-word}
-use Rattle.spans.proofs.Meant.{Entered, means-one}
+use Rattle.spans.proofs.Meant.{means-one}
 use Rattle.walk.specs.declared.Walked.{Walked}
 use Rattle.walk.specs.declared.Walked.the-variants.{Sole, Several, None, Unsettled}
 use Rattle.walk.specs.Walked.{saysWalked, GivesBuild, Walks}
@@ -92,5 +92,6 @@ pub walk-one : (κs : Lfts 10) (a : Dens κs walk-kinds.ps) (r r′ : resT walk-
     → walk-reads.Post κs a r e
     → walk-reads.Post κs a r′ e′
     → (r ≡ r′)
-    × (GivesBuild r → take (length (now (a .1 .0))) (now (e .1 .1 .1 .1 .1 .1 .1 .1 .1 .1 .1 .0)) ≡ take (length (now (a .1 .0))) (now (e′ .1 .1 .1 .1 .1 .1 .1 .1 .1 .1 .1 .0)))
+    × (GivesBuild r → take (length (now (a .1 .0))) (now (e .1 .1 .1 .1 .1 .1 .1 .1 .1 .1 .1 .0)) ≡ take (length (now (a .1 .0)))
+    (now (e′ .1 .1 .1 .1 .1 .1 .1 .1 .1 .1 .1 .0)))
 walk-one κs a r r′ e e′ pre p q = (walks-one (entered (pre .0)) p q, words-one (entered (pre .0)) p q)

@@ -64,7 +64,8 @@ pub record Looping (words twos starts slots marks₀ first₀ marks first : List
 
 module _ {words twos starts slots marks₀ first₀ marks first : List ℕ} {i want mask budget placed₀ state₀ placed state : ℕ} where
   -- nothing is left to try
-  pub held-end : {rest : List ℕ} → Held words twos starts slots marks₀ first₀ marks first i want mask budget placed₀ state₀ placed state rest
+  pub held-end : {rest : List ℕ}
+      → Held words twos starts slots marks₀ first₀ marks first i want mask budget placed₀ state₀ placed state rest
       → rest ≡ []
       → Went words twos starts slots marks₀ first₀ marks first mask i want budget placed₀ state₀ placed state
   held-end {rest} h e = record {
@@ -76,7 +77,8 @@ module _ {words twos starts slots marks₀ first₀ marks first : List ℕ} {i w
   }
 
   -- a second build is complete, or the budget was spent below
-  pub held-over : {rest : List ℕ} → Held words twos starts slots marks₀ first₀ marks first i want mask budget placed₀ state₀ placed state rest
+  pub held-over : {rest : List ℕ}
+      → Held words twos starts slots marks₀ first₀ marks first i want mask budget placed₀ state₀ placed state rest
       → 2 ≤ state
       → Went words twos starts slots marks₀ first₀ marks first mask i want budget placed₀ state₀ placed state
   held-over {rest} h over = record {
@@ -104,13 +106,15 @@ module _ {words twos starts slots marks₀ first₀ marks first : List ℕ} {i w
     firsts = h .firsts;
     within = omega arith;
     runs = λ l ones p path r s w. let a = h .along l ones p path r s w in
-        rw (a .goes-on) (ends l ones path (a .so-far) (shows-spent (length words) budget (a .shows) few at (path ++ (getD words e 0 ∷ []))));
+        rw (a .goes-on) (ends l ones path (a .so-far) (shows-spent (length words) budget (a .shows) few at (path ++
+        (getD words e 0 ∷ []))));
   }
     where
       ends : (l : ℕ) (ones path : List ℕ) (x : Run) → reach (length words) budget x (path ++ (getD words e 0 ∷ [])) ≡ spent
           → Shows path budget spentState first (foldl (turn l words ones twos marks₀ i budget path) x (e ∷ rest))
       ends l ones path x q =
-          rw (turn-spent l words ones twos marks₀ i budget path x e q) (rw (turns-spent l words ones twos marks₀ i budget path rest) stopped)
+          rw (turn-spent l words ones twos marks₀ i budget path x e q)
+          (rw (turns-spent l words ones twos marks₀ i budget path rest) stopped)
 
 -- ---- the start
 
@@ -165,7 +169,8 @@ module _ {words twos starts slots marks kept : List ℕ} {i placed state budget 
         there : hi′ ≤ length slots
         there = omega (arith, open-is .to, last-start)
 
-        x-in : (x : ℕ) → k ≤ x → x < hi′ → In (getD slots x 0) (opened (keep (isDue twos marks i) (listAt starts slots i)) (listAt starts slots i))
+        x-in : (x : ℕ) → k ≤ x → x < hi′ → In (getD slots x 0)
+            (opened (keep (isDue twos marks i) (listAt starts slots i)) (listAt starts slots i))
         x-in x from to = rw (opened-list starts lo-is hi-is open-is) at (in-part slots lo′ hi′ x (omega (arith, next .on)) to there)
 
   -- the slots of the place's list
@@ -204,7 +209,8 @@ module _ {words twos starts slots marks₀ kept₀ marks kept : List ℕ} {i wan
       (ahead (able words marks₀ i want) words slots k′ hi)
   held-next {w} {from} {hi} {k′} held n = rw next-is at held
     where
-      next-is : tries (able words marks₀ i want) (λ j. getD words j 0) w (part slots from hi) ≡ ahead (able words marks₀ i want) words slots k′ hi
+      next-is : tries (able words marks₀ i want) (λ j. getD words j 0) w (part slots from hi)
+          ≡ ahead (able words marks₀ i want) words slots k′ hi
       next-is = rw (held .unmarked) at (n .rest)
 
 -- the entry e at slot k is to be tried

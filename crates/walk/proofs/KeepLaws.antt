@@ -38,7 +38,8 @@ module _ {A : Type 0} where
           → cond (a && g x) (x ∷ keep (λ y. f y && g y) l) (keep (λ y. f y && g y) l) ≡ keep g (cond a (x ∷ keep f l) (keep f l))
       go true t = by (g x)
         where
-          by : (b : Bool) → cond b (x ∷ keep (λ y. f y && g y) l) (keep (λ y. f y && g y) l) ≡ cond b (x ∷ keep g (keep f l)) (keep g (keep f l))
+          by : (b : Bool) → cond b (x ∷ keep (λ y. f y && g y) l) (keep (λ y. f y && g y) l)
+              ≡ cond b (x ∷ keep g (keep f l)) (keep g (keep f l))
           by true = ap (λ r. x ∷ r) t
           by false = t
       go false t = t

@@ -21,7 +21,8 @@ use Rattle.walk.proofs.KeepLaws.{keep-same}
 
 -- ---- folds
 
-pub fold-same : {A B : Type 0} (f g : B → A → B) (l : List A) (b : B) → ((c : B) (x : A) → In x l → f c x ≡ g c x) → foldl f b l ≡ foldl g b l
+pub fold-same : {A B : Type 0} (f g : B → A → B) (l : List A) (b : B) → ((c : B) (x : A) → In x l → f c x ≡ g c x)
+    → foldl f b l ≡ foldl g b l
 fold-same f g [] b h = refl
 fold-same f g (x ∷ l) b h =
     ap (λ c. foldl f c l) (h b x first) ∙ fold-same f g l (g b x) (λ c y m. h c y (later m))
@@ -131,7 +132,8 @@ all-set path kept w h e =
     (omega (arith, length-append path (w ∷ []), length-set kept (length path) w)))
     ∙ after-set path kept w (omega arith) e
 
-pub shows-reach : (m budget w : ℕ) {path first : List ℕ} {n state n′ state′ : ℕ} {r : Run} → Shows path n state first r → state < 2 → n < budget
+pub shows-reach : (m budget w : ℕ) {path first : List ℕ} {n state n′ state′ : ℕ} {r : Run} → Shows path n state first r
+    → state < 2 → n < budget
     → length first ≡ m → length path < m → Placed (length path) m n state n′ state′
     → Shows (path ++ (w ∷ [])) n′ state′ (cond (eqb state 0) (set first (length path) w) first) (reach m budget r (path ++ (w ∷ [])))
 unfolding reach

@@ -90,7 +90,8 @@ module _ {l i want : ℕ} {p : Option ℕ} {words ones twos starts slots marks :
     placing s j =
         run (length words) budget (reach (length words) budget s (path ++ (word j ∷ [])))
         (map (λ ws. path ++ (word j ∷ []) ++ ws)
-        (walk l (length words - (i + 1)) (suc i) (some (word j)) (map entry (keep (λ k. isLeft marks k && not (eqb k j)) (numbers 0 (length words))))))
+        (walk l (length words - (i + 1)) (suc i) (some (word j)) (map entry (keep (λ k. isLeft marks k && not (eqb k j))
+        (numbers 0 (length words))))))
 
     abbrev turning : Run → ℕ → Run
     turning = turn l words ones twos marks i budget path
@@ -101,7 +102,8 @@ module _ {l i want : ℕ} {p : Option ℕ} {words ones twos starts slots marks :
         rw (left-marked words ones twos marks j (omega arith)) (ap
         (λ n. run (length words) budget (reach (length words) budget s (path ++ (word j ∷ [])))
         (map (λ ws. path ++ (word j ∷ []) ++ ws)
-        (walk l (length words - (i + 1)) n (some (word j)) (map entry (keep (λ k. isLeft marks k && not (eqb k j)) (numbers 0 (length words)))))))
+        (walk l (length words - (i + 1)) n (some (word j)) (map entry (keep (λ k. isLeft marks k && not (eqb k j)) (numbers 0
+        (length words)))))))
         (sym (add-one i)))
 
     -- the run at the place, over what the place's list opens
@@ -117,7 +119,8 @@ module _ {l i want : ℕ} {p : Option ℕ} {words ones twos starts slots marks :
         (λ j h a. place .prepared .there i j (place .inside) h (a .begun) (a .lasts))
         ∙ ap (λ js. foldl placing r (firsts word last js)) (candidates place wants)
         ∙ ap (foldl placing r) (tries-firsts ok word last noWord opens (λ j h e. omega (arith, words-are j (opened-below place j h))))
-        ∙ fold-same placing turning (tries ok word noWord opens) r (λ s j h. turn-is s j (opened-below place j (tries-in ok word last noWord opens h)))
+        ∙ fold-same placing turning (tries ok word noWord opens) r
+        (λ s j h. turn-is s j (opened-below place j (tries-in ok word last noWord opens h)))
       where
         one-less : length words - i ≡ suc (length words - (i + 1))
         one-less = omega (arith, place .inside)

@@ -16,9 +16,9 @@ use Rattle.entries.proofs.SlotLaws.{slot-from}
 use Rattle.sequence.specs.Lists.{keep, numbers}
 use Rattle.sequence.proofs.ListLaws.{in-map}
 use Rattle.spans.specs.Walk.{walk, walked}
-use Rattle.spans.specs.Settling.{Means, Worded}
+use Rattle.spans.specs.Settling.{Entered, Means, Worded}
 use Rattle.spans.specs.Run.{Run, searching, run, comeTo}
-use Rattle.spans.proofs.Meant.{Entered, outcome-means}
+use Rattle.spans.proofs.Meant.{outcome-means}
 use Rattle.spans.proofs.Indices.{numbers-in, length-numbers}
 use Rattle.spans.proofs.Runs.{Keeps, keeps-one, keeps-two, run-answers, run-worded}
 use Rattle.tables.specs.Spans.{Spans}
@@ -65,7 +65,13 @@ left-all words ones twos {marks} u e =
 -- lists that the entry rules admit are entries that they admit
 pub entered : {l : ℕ} {words ones twos : List ℕ} → Spans l words ones twos → Entered l (entriesIn words ones twos)
 entered {l} {words} {ones} {twos} card = rw (← numbers-row words ones twos 0 (length words)) record {
-  some-entry = omega (arith, card .some-entry, length-map (numbers 0 (length words)) (spanAt words ones twos), length-numbers 0 (length words));
+  some-entry = omega (
+    arith,
+    card .some-entry,
+    length-map (numbers 0 (length words)) (spanAt words ones twos),
+    length-numbers 0
+        (length words),
+  );
   fits = λ e h. let u = in-map (spanAt words ones twos) (numbers 0 (length words)) h in
       rw (u .2) (card .fits (u .0) (omega (arith, numbers-in 0 (length words) (u .0) (u .1))));
   spans = λ e h. let u = in-map (spanAt words ones twos) (numbers 0 (length words)) h in
@@ -109,7 +115,8 @@ module _ {l : ℕ} {words ones twos starts slots marks : List ℕ} (card : Spans
   unfolding walked
   whole-run budget =
       ap (run (length words) budget (searching 0)) (map-none (walk l (length words - 0) 0 none (left words ones twos marks)))
-      ∙ ap (λ left-is. run (length words) budget (searching 0) (walk l (length words - 0) 0 none left-is)) (left-all words ones twos unmarked marks-all)
+      ∙ ap (λ left-is. run (length words) budget (searching 0) (walk l (length words - 0) 0 none left-is))
+      (left-all words ones twos unmarked marks-all)
       ∙ ap (λ n. run (length words) budget (searching 0) (walk l n 0 none es)) same
       ∙ ap (λ n. run n budget (searching 0) (walk l (length es) 0 none es)) (sym entries-length)
     where

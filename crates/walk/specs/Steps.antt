@@ -23,7 +23,7 @@ use Rattle.walk.specs.declared.Walked.{Walked}
 use Rattle.walk.specs.declared.Walked.the-variants.{Sole, Several, None, Unsettled}
 use Rattle.tables.specs.Prepared.{part}
 
--- what no word is
+-- what no word is, as the largest number of four bytes
 abbrev pub noWord : ℕ
 noWord = 4294967295
 

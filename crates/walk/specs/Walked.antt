@@ -1,4 +1,5 @@
 -- What a walk over lists answers, and what that means.
+--   mostBudget                     == the largest budget
 --   entriesIn words ones twos      == the entries of the lists, in the order of their indices
 --   saysWalked l ws r              == what the enum `Walked` says, where ws are the words that are given with it
 --   GivesBuild r                   == r gives a build
@@ -15,6 +16,10 @@ use Rattle.sequence.specs.Verdict.{sole, several, noBuild, Outcome, settled, un
 use Rattle.spans.specs.Settling.{Means, Worded}
 use Rattle.walk.specs.declared.Walked.{Walked}
 use Rattle.walk.specs.declared.Walked.the-variants.{Sole, Several, None, Unsettled}
+
+-- "A budget is 0 to 4,294,967,295."
+abbrev pub mostBudget : ℕ
+mostBudget = 4294967295
 
 abbrev pub entriesIn : List ℕ → List ℕ → List ℕ → List Slot
 entriesIn words ones twos = row (slotFrom words ones twos) 0 (length words)

@@ -6,7 +6,7 @@ ghost use lib.Dec.{eqb};
 ghost use lib.ListN.{length, getD, set, take};
 ghost use Rattle.tables.specs.Spans.{Spans};
 ghost use Rattle.tables.specs.Room.{Room};
-ghost use Rattle.walk.specs.Walked.{entriesIn, Walks};
+ghost use Rattle.walk.specs.Walked.{mostBudget, entriesIn, Walks};
 ghost use Rattle.walk.specs.Steps.{Unmarked, walkedAt, canTry, isDue, Listed, Opened, Next, Placed};
 ghost use Rattle.walk.specs.Going.{Ready, Went};
 
@@ -144,7 +144,7 @@ fn keep_word(first: &mut [u32], i: usize, w: u32, state: u32)
 
 // A placement at the place i of m: it is counted, and at the last place it completes a build.
 fn placed_at(i: usize, m: usize, t: Tally) -> Tally
-    requires { ⌜ (i < m) × (t .placed < 4294967295) × (t .state < 2) ⌝ }
+    requires { ⌜ (i < m) × (t .placed < mostBudget) × (t .state < 2) ⌝ }
     ensures { λ r. ⌜ Placed i m (t .placed) (t .state) (r .placed) (r .state) ⌝ }
 {
     let placed = t.placed + 1;
@@ -252,7 +252,8 @@ fn outcome_of(t: Tally, budget: u32) -> Walked
     Walked::Unsettled(budget)
 }
 
-// The walk over lists that the entry rules admit. Where it gives a build, `first` begins with the words of the alphabetically first one; the
+// The walk over lists that the entry rules admit. Where it gives a build, `first` begins with the words of the alphabetically first one;
+// the
 // other lent lists are its tables, and are left as the walk needs them.
 pub fn walk(
     l: usize,

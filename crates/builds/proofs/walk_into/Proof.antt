@@ -6,7 +6,6 @@ use lib.ListN.{length, take}
 use lib.Seq.{length-take-le}
 use borrow.Author.Needs.{needs}
 use Rattle.layout.specs.Bounds.{mostEntries}
-use Rattle.builds.proofs.WalkingLaws.{span-card}
 use Rattle.builds.proofs.walk_into.Statement.{statement}
 use Rattle.builds.proofs.walk_into.Tie as tie
 
@@ -20,7 +19,7 @@ walked c = c .before .before .before .before .before .before .before .before .be
 found-all : (c : tie.After-found3)
     → length (take (length (start (walked c) .args .words .now)) (walked c .walk .last .1 .1 .1 .1 .1 .1 .1 .1 .1 .1 .1 .0))
     ≡ length (start (walked c) .args .words .now)
-found-all c = length-take-le _ _ (omega (arith, c .before .before .found2 .given, start (walked c) .pre .0 .within))
+found-all c = length-take-le _ _ (omega (arith, c .before .before .found2 .given, start (walked c) .pre .1 .0))
 
 slice-aggregate-walk : tie.Need-slice-aggregate-walk
 slice-aggregate-walk c = search needs
@@ -46,8 +45,8 @@ slice-aggregate-walk-7 c = search needs
 walk-requires : tie.Need-walk-requires
 walk-requires c κs =
     let at = c .before .before .before .before .before .before .before .before .before .before .before in
-    let few : length (at .args .words .now) ≤ mostEntries = at .pre .0 .within in (
-      span-card (at .pre .0),
+    let few : length (at .args .words .now) ≤ mostEntries = at .pre .1 .0 in (
+      at .pre .0,
       (
         record {
           in-order = few;
@@ -68,7 +67,7 @@ slice-aggregate-give-words : tie.Need-slice-aggregate-give-words
 slice-aggregate-give-words c = sym (found-all c)
 
 give-words-requires : tie.Need-give-words-requires
-give-words-requires c κs = start (walked c) .pre .1 ∙ sym (found-all c)
+give-words-requires c κs = start (walked c) .pre .1 .1 ∙ sym (found-all c)
 
 same-length : tie.Need-same-length
 same-length c = search needs
@@ -80,7 +79,7 @@ returns c =
     record {
       found = _;
       walks = walked lent .walk .ensures;
-      all = found-all lent ∙ sym (at .pre .1);
+      all = found-all lent ∙ sym (at .pre .1 .1);
       words = c .before .before .give-words .ensures;
     }
 

@@ -9,7 +9,7 @@ use Rattle.entries.specs.Fault.{span}
 use Rattle.layout.specs.Bounds.{mostEntries}
 use Rattle.lists.specs.Lists.{listsTests}
 use Rattle.lists.proofs.SpanLaws.{lists-span}
-use Rattle.builds.proofs.WalkingLaws.{lists-refused, no-room, walk-answered}
+use Rattle.builds.proofs.WalkingLaws.{span-card, lists-refused, no-room, walk-answered}
 use Rattle.builds.proofs.walk_lists.Statement.{statement}
 use Rattle.builds.proofs.walk_lists.Tie as tie
 
@@ -18,7 +18,8 @@ module _ (c : tie.After-enum-told) where
   abbrev start : tie.Start
   start = c .before .before .before .before .before .before .before
 
-  hold : first (listsTests mostEntries span (start .args .l) (start .args .words .now) (start .args .ones .now) (start .args .twos .now)) sound
+  hold : first (listsTests mostEntries span (start .args .l) (start .args .words .now) (start .args .ones .now)
+      (start .args .twos .now)) sound
       ≡ given sound
   hold = told-holds (c .before .before .lists-hold .ensures) (c .enum-told .given .1)
 
@@ -49,7 +50,8 @@ walk-into-requires : tie.Need-walk-into-requires
 walk-into-requires c κs =
     let past = c .before .before in
     let at = start past in
-    (lists-span (hold past), omega (arith, length-take (length (at .args .words .now)) (at .args .out .now), c .before .if1 .left))
+    let has = lists-span (hold past) in
+    (span-card has, (has .within, omega (arith, length-take (length (at .args .words .now)) (at .args .out .now), c .before .if1 .left)))
 
 same-length : tie.Need-same-length
 same-length c = search needs

@@ -3,8 +3,6 @@ use borrow.Author.Needs.{needs}
 use borrow.Author.Tests.{eq-eqb, ne-eqb}
 use Rattle.walk.proofs.keep_word.Statement.{statement}
 use Rattle.walk.proofs.keep_word.Tie as tie
-use Rattle.walk.proofs.keep_word.Reads as reads
-use Rattle.walk.proofs.keep_word.Lts as lts
 
 mul-first : tie.Need-mul-first
 mul-first c = search needs

@@ -33,7 +33,8 @@ returns : tie.Need-returns Inv-loop μ-loop
 returns c =
     let turn = c .before .before .before in
     let found = sym (c .before .can-try .ensures) ∙ c .if1 .taken in
-    skipped-found _ _ _ _ _ _ (turn .before .loop .inv) (turn .before .before .before .before .before .pre .0 .ends) (turn .loop-test .taken)
+    skipped-found _ _ _ _ _ _ (turn .before .loop .inv) (turn .before .before .before .before .before .pre .0 .ends)
+    (turn .loop-test .taken)
     (rw (c .before .before .at16 .ensures) at found)
 
 add-k : tie.Need-add-k Inv-loop μ-loop
