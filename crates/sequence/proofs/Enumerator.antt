@@ -1,40 +1,28 @@
 -- All arrangements of a list of entries, one by one, and the sequences that they spell: slow, and computable, so that a small table can be
 -- decided by computation.
---   choices es              == each entry of es with those that are left without it
 --   arranged l n i p es     == the arrangements of the n entries es at the places i, i + 1, …, after p
 --   arrangements l es       == the arrangements of es
 --   sequences l es          == what they spell
 -- Assumes nothing.
 use mathlib.Core.Path.{_≡_, refl}
 use mathlib.Core.Logic.{⊎-elim}
-use mathlib.Core.Bool.{Bool, true, false, _&&_}
+use mathlib.Core.Bool.{Bool, _&&_}
 use mathlib.Core.List.{List, [], _∷_, map, flatMap}
 use mathlib.Core.Option.{Option, none, some}
 use Prim.Native.Nat.{ℕ, zero, suc}
 use native.Mathlib.Omega.{arith}
 use lib.ListN.{length}
-use lib.Dec.{T}
 use Rattle.answers.proofs.Tests.{both}
 use Rattle.entries.specs.declared.Entry.{Entry}
 use Rattle.entries.specs.Entry.{allows}
-use Rattle.sequence.specs.Lists.{In, first, later, Taken, here, there, Reordered, empty, next, keep}
+use Rattle.sequence.specs.Lists.{In, first, Reordered, empty, next, Choice, choices, keep}
 use Rattle.sequence.specs.Arrangement.{follows, Standing, nobody, stands, Arrangement, words}
 use Rattle.sequence.specs.Build.{spell, Build}
-use Rattle.sequence.proofs.ListLaws.{not-in-nil, in-cons, length-taken, in-keep, keep-in, map-in, in-map, flatMap-in, in-flatMap}
-
-pub record Choice : Type 0 where
-  pub entry : Entry
-  pub left : List Entry
-
-abbrev pub choice : Entry → List Entry → Choice
-choice e rest = record { entry = e; left = rest }
-
-abbrev pub choices : List Entry → List Choice
-choices [] = []
-choices (e ∷ es) = choice e es ∷ map (λ c. choice (c .entry) (e ∷ c .left)) (choices es)
+use Rattle.sequence.proofs.TestLaws.{is-true, true-is, both-and}
+use Rattle.sequence.proofs.ListLaws.{taken-choice, choice-taken, not-in-nil, in-cons, length-taken, in-keep, keep-in, map-in, in-map, flatMap-in, in-flatMap}
 
 -- the entry may stand at the place i, after p
-abbrev pub canStand : ℕ → ℕ → Option ℕ → Choice → Bool
+abbrev pub canStand : ℕ → ℕ → Option ℕ → Choice Entry → Bool
 canStand l i p c = allows (c .entry .places) i && follows l p (c .entry .word)
 
 unfoldable pub arranged : ℕ → ℕ → ℕ → Option ℕ → List Entry → List (List Entry)
@@ -50,24 +38,6 @@ arrangements l es = arranged l (length es) 0 none es
 unfoldable pub sequences : ℕ → List Entry → List (List ℕ)
 unfolding arrangements spell
 sequences l es = map (λ o. spell l (words o)) (arrangements l es)
-
--- ---- choices
-
-choices-taken : {c : Choice} (es : List Entry) → In c (choices es) → Taken (c .entry) es (c .left)
-choices-taken (e ∷ es) h =
-    ⊎-elim (λ q. rw q here)
-    (λ g. let s = in-map (λ c. choice (c .entry) (e ∷ c .left)) (choices es) g in rw (s .2) (there (choices-taken es (s .1)))) (in-cons h)
-
-taken-choices : {e : Entry} {es rest : List Entry} → Taken e es rest → In (choice e rest) (choices es)
-taken-choices here = first
-taken-choices (there {x} t) = later (map-in (λ c. choice (c .entry) (x ∷ c .left)) (taken-choices t))
-
-tested : (t : Bool) → T t → t ≡ true
-tested true h = refl
-tested false h = absurd h
-
-joined : (t u : Bool) → t ≡ true → u ≡ true → T (t && u)
-joined t u e f = rw e (rw f tt)
 
 -- ---- each is an arrangement
 
@@ -86,8 +56,8 @@ arranged-sound l (suc n) i p es k h =
     (keep (canStand l i p) (choices es)) h in
     let c = u .0 in
     let stand = in-keep (canStand l i p) (choices es) (u .1) in
-    let taken = choices-taken es (stand .0) in
-    let test = both (allows (c .entry .places) i) (follows l p (c .entry .word)) (tested (canStand l i p c) (stand .1)) in
+    let taken = choice-taken es (stand .0) in
+    let test = both (allows (c .entry .places) i) (follows l p (c .entry .word)) (is-true (canStand l i p c) (stand .1)) in
     let v = in-map (λ o. c .entry ∷ o) (arranged l n (suc i) (some (c .entry .word)) (c .left)) (u .2) in
     let after = arranged-sound l n (suc i) (some (c .entry .word)) (c .left) (omega (arith, length-taken taken)) (v .1) in
     rw (v .2) (record { each = next taken (after .each); standing = stands (test .0) (test .1) (after .standing) })
@@ -108,7 +78,7 @@ arranged-complete zero k (next t r) s = absurd (let h = length-taken t in omega 
 arranged-complete {l} {i} {p} (suc n) k (next {e} {rest} t r) (stands a f more) =
     let h = arranged-complete n (omega (arith, length-taken t)) r more in
     flatMap-in (λ c. map (λ o. c .entry ∷ o) (arranged l n (suc i) (some (c .entry .word)) (c .left)))
-    (keep-in (canStand l i p) (taken-choices t) (joined (allows (e .places) i) (follows l p (e .word)) a f)) (map-in (λ o. e ∷ o) h)
+    (keep-in (canStand l i p) (taken-choice t) (both-and (allows (e .places) i) (follows l p (e .word)) (true-is _ a) (true-is _ f))) (map-in (λ o. e ∷ o) h)
 
 pub arrangements-complete : {l : ℕ} {es order : List Entry} → Arrangement l es order → In order (arrangements l es)
 unfolding arrangements

@@ -1,4 +1,5 @@
 -- The laws of this crate's definitions, cited by the crates above.
+-- `TestLaws`: tests that hold.
 -- `ListLaws`: members of lists, taking one out, rising order, pairing off.
 -- `ReorderedLaws`: lists in another order, and what a map does to them.
 -- `OrderLaws`: the alphabetical order.
@@ -10,6 +11,7 @@
 -- `Enumerator`: all arrangements of a list of entries, by computation.
 -- `VerdictOf`: the verdict on a list of sequences, and on all arrangements, by computation.
 -- `Tables`: the tables of 01 from the definitions, through one statement over the list.
+pub mod TestLaws
 pub mod ListLaws
 pub mod ReorderedLaws
 pub mod OrderLaws

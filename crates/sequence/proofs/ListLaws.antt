@@ -7,7 +7,7 @@ use Prim.Native.Nat.{suc, _≤_}
 use native.Mathlib.Omega.{arith}
 use lib.ListN.{length}
 use lib.Dec.{T}
-use Rattle.sequence.specs.Lists.{In, first, later, Taken, here, there, Paired, nobody, pair, Rising, flat, rises, keep}
+use Rattle.sequence.specs.Lists.{In, first, later, Taken, here, there, Paired, nobody, pair, Rising, flat, rises, Choice, choice, choices, keep}
 
 module _ {A : Type 0} where
   -- ---- taking out
@@ -192,3 +192,16 @@ module _ {A B : Type 0} where
   rising-flatMap f each between (rises {x = a} {xs = l} up r) =
       rising-append (each a) (rising-flatMap f each between r)
       (λ x y g h. let s = in-flatMap f l h in between a (s .0) x y (up (s .0) (s .1)) g (s .2))
+
+-- ---- choices
+
+module _ {A : Type 0} where
+  pub taken-choice : {e : A} {all rest : List A} → Taken e all rest → In (choice e rest) (choices all)
+  taken-choice here = first
+  taken-choice (there {x} t) = later (map-in (λ c. choice (c .entry) (x ∷ c .left)) (taken-choice t))
+
+  pub choice-taken : {c : Choice A} (all : List A) → In c (choices all) → Taken (c .entry) all (c .left)
+  choice-taken (e ∷ es) h =
+      ⊎-elim (λ q. rw q here)
+      (λ g. let s = in-map (λ c. choice (c .entry) (e ∷ c .left)) (choices es) g in rw (s .2) (there (choice-taken es (s .1))))
+      (in-cons h)

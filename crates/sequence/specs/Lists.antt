@@ -4,11 +4,12 @@
 --   Reordered all order    == `order` has the members of `all`, each as often, in any order
 --   Rising R xs            == each member stands in R to all that come after it
 --   Paired R xs ys         == the members of the two lists pair off, each pair in R
+--   choices xs             == each member with those that are left without it, in the order of the list
 --   keep test xs           == those that pass the test, in their order
 --   numbers i n            == the n numbers from i on
 -- Assumes nothing.
 use mathlib.Core.Bool.{Bool, cond}
-use mathlib.Core.List.{List, [], _∷_}
+use mathlib.Core.List.{List, [], _∷_, map}
 use Prim.Native.Nat.{ℕ, zero, suc}
 
 module _ {A : Type 0} where
@@ -31,6 +32,19 @@ module _ {A : Type 0} where
   abbrev pub keep : (A → Bool) → List A → List A
   keep test [] = []
   keep test (x ∷ xs) = cond (test x) (x ∷ keep test xs) (keep test xs)
+
+-- one that is taken out, and what is left
+pub record Choice (A : Type 0) : Type 0 where
+  pub entry : A
+  pub left : List A
+
+module _ {A : Type 0} where
+  abbrev pub choice : A → List A → Choice A
+  choice e rest = record { entry = e; left = rest }
+
+  abbrev pub choices : List A → List (Choice A)
+  choices [] = []
+  choices (e ∷ es) = choice e es ∷ map (λ c. choice (c .entry) (e ∷ c .left)) (choices es)
 
 pub data Paired {A : Type 0} (R : A → A → Type 0) : List A → List A → Type 0 where
   nobody : Paired R [] []

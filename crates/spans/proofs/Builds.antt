@@ -2,13 +2,13 @@
 -- Assumes nothing.
 use mathlib.Core.Path.{_≡_, refl, sym, _∙_, ap}
 use mathlib.Core.Logic.{⊎-elim}
-use mathlib.Core.Bool.{Bool, true}
+use mathlib.Core.Bool.{true}
 use mathlib.Core.List.{List, [], _∷_, map}
 use mathlib.Core.Option.{Option, none, some}
 use Prim.Native.Nat.{ℕ, suc, _<_}
 use native.Mathlib.Omega.{arith}
 use lib.ListN.{length, length-map}
-use lib.Dec.{T, eqb, leb, eqb→eq, eqb-refl, leb→le, le→leb}
+use lib.Dec.{eqb, leb, eqb→eq, eqb-refl, leb→le, le→leb}
 use Rattle.entries.specs.declared.Slot.{Slot}
 use Rattle.entries.specs.Entry.{entryOf, allows}
 use Rattle.entries.specs.Fault.{span}
@@ -17,21 +17,15 @@ use Rattle.sequence.specs.Lists.{In, Reordered, empty, next, Rising}
 use Rattle.sequence.specs.Arrangement.{Standing, nobody, stands, words}
 use Rattle.sequence.specs.Build.{spell, Build}
 use Rattle.sequence.specs.Verdict.{Before}
+use Rattle.sequence.proofs.TestLaws.{is-true, true-is, and-both, both-and}
 use Rattle.sequence.proofs.ListLaws.{not-in-nil, in-cons, in-keep, keep-in, rising-keep, length-taken}
 use Rattle.sequence.proofs.ReorderedLaws.{reordered-map, map-reordered, reordered-length}
 use Rattle.spans.specs.Walk.{walked, builds}
 use Rattle.spans.specs.Settling.{spanEntries, Worded}
 use Rattle.spans.proofs.Feasible.{Allowed, Feasible, stop, step, feasible-length}
-use Rattle.spans.proofs.Tried.{and-both, both-and}
 use Rattle.spans.proofs.Reached.{reached-feasible, feasible-reached, reached-some, walk-rising}
 
 -- ---- a span holds a place
-
-pub is-true : (b : Bool) → T b → b ≡ true
-is-true true t = refl
-
-true-is : (b : Bool) → b ≡ true → T b
-true-is b e = rw e tt
 
 pub allowed-is : (s : Slot) (i : ℕ) → Allowed s i → allows (entryOf span s .places) i ≡ true
 allowed-is s i a =

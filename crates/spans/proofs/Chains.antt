@@ -6,13 +6,14 @@ use mathlib.Core.Option.{Option}
 use Prim.Native.Nat.{ℕ, _^_, _<_}
 use native.Mathlib.Omega.{arith}
 use Rattle.entries.specs.declared.Slot.{Slot}
+use Rattle.sequence.proofs.TestLaws.{is-true}
 use Rattle.sequence.specs.Lists.{In}
 use Rattle.sequence.specs.Build.{spell}
 use Rattle.sequence.specs.Verdict.{Before}
 use Rattle.sequence.proofs.ListLaws.{not-in-nil, in-cons, in-left, taken-is-in}
 use Rattle.sequence.proofs.SpellingLaws.{Chain, ends, goes, Chained, spell-before, spell-one}
 use Rattle.spans.proofs.Feasible.{Feasible, stop, step}
-use Rattle.spans.proofs.Builds.{Complete, is-true}
+use Rattle.spans.proofs.Builds.{Complete}
 
 feasible-chain : {l i : ℕ} {p : Option ℕ} {left : List Slot} {ws : List ℕ} → Feasible l i p left ws → Chain l p ws
 feasible-chain (stop h) = ends

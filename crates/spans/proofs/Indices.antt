@@ -11,12 +11,13 @@ use mathlib.Core.Logic.{⊎-elim}
 use lib.ListN.{length}
 use lib.Dec.{T, eqb, leb, ltb}
 use borrow.Author.Tests.{eq-eqb, ne-eqb}
-use Rattle.sequence.specs.Lists.{In, first, later, Rising, flat, rises, keep, numbers}
+use Rattle.sequence.proofs.TestLaws.{and-both, both-and}
+use Rattle.sequence.specs.Lists.{Choice, choice, choices, In, first, later, Rising, flat, rises, keep, numbers}
 use Rattle.entries.specs.declared.Slot.{Slot}
 use Rattle.spans.proofs.Feasible.{Allowed}
-use Rattle.spans.specs.Walk.{Choice, choice, wordOf, endOf, choices, isCandidate, insert, byWord, tried, walk}
+use Rattle.spans.specs.Walk.{wordOf, endOf, isCandidate, insert, byWord, tried, walk}
 use Rattle.sequence.proofs.ListLaws.{in-keep, keep-in, rising-keep}
-use Rattle.spans.proofs.Tried.{and-both, both-and, candidate-of}
+use Rattle.spans.proofs.Tried.{candidate-of}
 use Rattle.spans.proofs.Order.{Sooner, firsts, by-word-firsts}
 
 -- ---- maps
@@ -123,7 +124,7 @@ without-keep j test (k ∷ l) = go (test k) (not (eqb k j)) refl (without-keep j
 
 module _ (entry : ℕ → Slot) where
   -- the entry with the index j, and those of the other indices
-  abbrev pub choiceIn : List ℕ → ℕ → Choice
+  abbrev pub choiceIn : List ℕ → ℕ → Choice Slot
   choiceIn l j = choice (entry j) (map entry (without j l))
 
   choices-map : {l : List ℕ} → Rising _<_ l → choices (map entry l) ≡ map (choiceIn l) l

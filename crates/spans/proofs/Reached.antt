@@ -6,16 +6,16 @@ use mathlib.Core.Option.{Option, some}
 use Prim.Native.Nat.{ℕ, zero, suc, _≤_}
 use native.Mathlib.Omega.{arith}
 use lib.ListN.{length}
-use Rattle.sequence.specs.Lists.{In, first, later, Rising, flat, rises}
+use Rattle.sequence.specs.Lists.{Choice, In, first, later, Rising, flat, rises}
 use Rattle.sequence.specs.Verdict.{Before}
 use Rattle.entries.specs.declared.Slot.{Slot}
-use Rattle.spans.specs.Walk.{Choice, wordOf, tried, walk}
+use Rattle.spans.specs.Walk.{wordOf, tried, walk}
 use Rattle.sequence.proofs.ListLaws.{in-cons, in-cast, in-map, map-in, in-flatMap, flatMap-in, rising-map, rising-flatMap}
 use Rattle.spans.proofs.Feasible.{Feasible, stop, step, feasible-cut, feasible-exchange}
 use Rattle.spans.proofs.Tried.{tried-in, tried-serves, tried-rising}
 
 -- the walk after the choice c, with n entries left
-abbrev after : ℕ → ℕ → ℕ → Choice → List (List ℕ)
+abbrev after : ℕ → ℕ → ℕ → Choice Slot → List (List ℕ)
 after l n i c = [] ∷ walk l n (suc i) (some (wordOf c)) (c .left)
 
 pub reached-feasible : (l n i : ℕ) (p : Option ℕ) (left : List Slot) {ws : List ℕ} → In ws (walk l n i p left) → Feasible l i p left ws
@@ -45,7 +45,7 @@ feasible-reached l (suc n) i {p} {left} h (step {rest} {e = own} {w} {ws} t e a 
 -- ---- in alphabetical order
 
 -- each item of the walk has a first word, the one that was tried
-reached-word : (l n i : ℕ) (c : Choice) {ws : List ℕ} → In ws (map (λ vs. wordOf c ∷ vs) (after l n i c))
+reached-word : (l n i : ℕ) (c : Choice Slot) {ws : List ℕ} → In ws (map (λ vs. wordOf c ∷ vs) (after l n i c))
     → (vs : List ℕ) × (ws ≡ wordOf c ∷ vs)
 reached-word l n i c h = let s = in-map (λ vs. wordOf c ∷ vs) (after l n i c) h in (s .0, s .2)
 

@@ -9,37 +9,21 @@ use Prim.Native.Nat.{ℕ, _≤_, _<_}
 use native.Mathlib.Omega.{arith}
 use lib.Dec.{T, leb, ltb, leb→le, le→leb, ltb→lt, lt→ltb}
 use borrow.Author.Tests.{ltb-true, ltb-false, leb-true, leb-false}
-use Rattle.sequence.specs.Lists.{In, first, later, Taken, here, there, Rising, flat, rises, keep}
+use Rattle.sequence.specs.Lists.{Choice, choice, choices, In, first, later, Taken, Rising, flat, rises, keep}
 use Rattle.entries.specs.declared.Slot.{Slot}
 use Rattle.sequence.specs.Arrangement.{follows}
-use Rattle.spans.specs.Walk.{Choice, choice, wordOf, endOf, choices, lastPast, isCandidate, insert, byWord, tried}
+use Rattle.spans.specs.Walk.{wordOf, endOf, lastPast, isCandidate, insert, byWord, tried}
 use Rattle.spans.proofs.Feasible.{Allowed}
-use Rattle.sequence.proofs.ListLaws.{not-in-nil, in-cons, in-keep, keep-in, map-in, in-map}
-
--- ---- choices
-
-pub taken-choice : {e : Slot} {left rest : List Slot} → Taken e left rest → In (choice e rest) (choices left)
-taken-choice here = first
-taken-choice (there {x} t) = later (map-in (λ c. choice (c .entry) (x ∷ c .left)) (taken-choice t))
-
-pub choice-taken : {c : Choice} (left : List Slot) → In c (choices left) → Taken (c .entry) left (c .left)
-choice-taken (e ∷ es) first = here
-choice-taken (e ∷ es) (later h) =
-    let s = in-map (λ c. choice (c .entry) (e ∷ c .left)) (choices es) h in rw (s .2) (there (choice-taken es (s .1)))
+use Rattle.sequence.proofs.TestLaws.{and-both, both-and}
+use Rattle.sequence.proofs.ListLaws.{taken-choice, choice-taken, not-in-nil, in-cons, in-keep, keep-in}
 
 -- ---- candidates
 
 -- what the test of a candidate says
-pub record Candidate (l i : ℕ) (p : Option ℕ) (c : Choice) : Type 0 where
+pub record Candidate (l i : ℕ) (p : Option ℕ) (c : Choice Slot) : Type 0 where
   pub allowed : Allowed (c .entry) i
   pub follow : T (follows l p (wordOf c))
   pub others : (d : Slot) → In d (c .left) → i < d .two
-
-pub and-both : (a b : Bool) → T (a && b) → T a × T b
-and-both true b t = (tt, t)
-
-pub both-and : (a b : Bool) → T a → T b → T (a && b)
-both-and true b s t = t
 
 past-in : (i : ℕ) (es : List Slot) → T (lastPast i es) → (d : Slot) → In d es → i < d .two
 past-in i (e ∷ es) t d first = ltb→lt _ _ (and-both (ltb i (e .two)) (lastPast i es) t .0)
@@ -49,7 +33,7 @@ in-past : (i : ℕ) (es : List Slot) → ((d : Slot) → In d es → i < d .two)
 in-past i [] h = tt
 in-past i (e ∷ es) h = both-and (ltb i (e .two)) (lastPast i es) (lt→ltb _ _ (h e first)) (in-past i es (λ d m. h d (later m)))
 
-pub candidate-of : (l i : ℕ) (p : Option ℕ) (c : Choice) → T (isCandidate l i p c) → Candidate l i p c
+pub candidate-of : (l i : ℕ) (p : Option ℕ) (c : Choice Slot) → T (isCandidate l i p c) → Candidate l i p c
 unfolding isCandidate
 candidate-of l i p c t =
     let a = and-both (leb (c .entry .one) i && leb i (endOf c) && follows l p (wordOf c)) (lastPast i (c .left)) t in
@@ -62,7 +46,7 @@ candidate-of l i p c t =
           past-in i _ (a .1);
     }
 
-pub of-candidate : (l i : ℕ) (p : Option ℕ) (c : Choice) → Candidate l i p c → T (isCandidate l i p c)
+pub of-candidate : (l i : ℕ) (p : Option ℕ) (c : Choice Slot) → Candidate l i p c → T (isCandidate l i p c)
 unfolding isCandidate
 of-candidate l i p c k =
     both-and (leb (c .entry .one) i && leb i (endOf c) && follows l p (wordOf c)) (lastPast i (c .left))
@@ -195,14 +179,14 @@ module _ {A : Type 0} (word last : A → ℕ) where
 -- ---- what is tried
 
 module _ (l i : ℕ) (p : Option ℕ) (left : List Slot) where
-  pub tried-in : {c : Choice} → In c (tried l i p left) → Taken (c .entry) left (c .left) × Candidate l i p c
+  pub tried-in : {c : Choice Slot} → In c (tried l i p left) → Taken (c .entry) left (c .left) × Candidate l i p c
   unfolding tried
   tried-in {c} h =
       let k = in-keep (isCandidate l i p) (choices left) (by-word-in wordOf endOf _ h) in
       (choice-taken left (k .0), candidate-of l i p c (k .1))
 
   pub tried-serves : {e : Slot} {rest : List Slot} → Taken e left rest → Candidate l i p (choice e rest)
-      → (d : Choice) × In d (tried l i p left) × Serves wordOf endOf (choice e rest) d
+      → (d : Choice Slot) × In d (tried l i p left) × Serves wordOf endOf (choice e rest) d
   unfolding tried
   tried-serves t k = by-word-serves wordOf endOf _ (keep-in (isCandidate l i p) (taken-choice t) (of-candidate l i p _ k))
 

@@ -1,7 +1,6 @@
 -- The walk on span cards (01, "The walk on span cards"), over the entries that are left: what it reaches, an item for each placement in the
 -- order of the placements, each item the words that stand then. An entry is as it is stored: its word, the first place of its span and the
 -- last. The entries that are left keep the order of their indices. No budget is in it.
---   choices left             == each entry that is left, with the others
 --   isCandidate l i p c      == the entry of the choice c may be tried at the place i, after the word p
 --   byWord word last cs      == of those with equal words the one that ends first, in the order of words
 --   tried l i p left         == what the walk tries at the place i, in order
@@ -17,26 +16,14 @@ use Prim.Native.Nat.{ℕ, zero, suc}
 use lib.Dec.{eqb, leb, ltb}
 use lib.ListN.{length}
 use Rattle.entries.specs.declared.Slot.{Slot}
-use Rattle.sequence.specs.Lists.{keep}
+use Rattle.sequence.specs.Lists.{Choice, choices, keep}
 use Rattle.sequence.specs.Arrangement.{follows}
 
--- an entry to place, and the entries that are left then
-pub record Choice : Type 0 where
-  pub entry : Slot
-  pub left : List Slot
-
-abbrev pub choice : Slot → List Slot → Choice
-choice e rest = record { entry = e; left = rest }
-
-abbrev pub wordOf : Choice → ℕ
+abbrev pub wordOf : Choice Slot → ℕ
 wordOf c = c .entry .word
 
-abbrev pub endOf : Choice → ℕ
+abbrev pub endOf : Choice Slot → ℕ
 endOf c = c .entry .two
-
-abbrev pub choices : List Slot → List Choice
-choices [] = []
-choices (e ∷ es) = choice e es ∷ map (λ c. choice (c .entry) (e ∷ c .left)) (choices es)
 
 -- no entry ends at i or earlier
 abbrev pub lastPast : ℕ → List Slot → Bool
@@ -45,7 +32,7 @@ lastPast i (e ∷ es) = ltb i (e .two) && lastPast i es
 
 -- "the candidates are unused entries whose span holds i, whose word overlaps the last word (at place 0, all overlap), and such that no
 -- other unused entry ends at i or earlier"
-unfoldable pub isCandidate : ℕ → ℕ → Option ℕ → Choice → Bool
+unfoldable pub isCandidate : ℕ → ℕ → Option ℕ → Choice Slot → Bool
 isCandidate l i p c = leb (c .entry .one) i && leb i (endOf c) && follows l p (wordOf c) && lastPast i (c .left)
 
 module _ {A : Type 0} (word last : A → ℕ) where
@@ -63,7 +50,7 @@ module _ {A : Type 0} (word last : A → ℕ) where
   byWord [] = []
   byWord (c ∷ cs) = insert c (byWord cs)
 
-unfoldable pub tried : ℕ → ℕ → Option ℕ → List Slot → List Choice
+unfoldable pub tried : ℕ → ℕ → Option ℕ → List Slot → List (Choice Slot)
 unfolding isCandidate byWord
 tried l i p left = byWord wordOf endOf (keep (isCandidate l i p) (choices left))
 

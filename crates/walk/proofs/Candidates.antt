@@ -13,13 +13,13 @@ use lib.Dec.{eqb}
 use borrow.Author.Tests.{eqb-true, eqb-false, eq-eqb, ne-eqb}
 use Rattle.answers.proofs.Tests.{both}
 use Rattle.entries.specs.declared.Slot.{Slot}
+use Rattle.sequence.proofs.TestLaws.{is-true}
 use Rattle.sequence.specs.Lists.{In, first, later, Rising, rises, keep, numbers}
 use Rattle.sequence.specs.Arrangement.{follows}
 use Rattle.sequence.proofs.ListLaws.{not-in-nil, in-cons, in-keep, keep-in, in-map, map-in, rising-keep}
 use Rattle.sequence.proofs.LetterLaws.{overlap-is, is-overlap}
 use Rattle.spans.specs.Walk.{isCandidate}
 use Rattle.spans.proofs.Tried.{Candidate, candidate-of, of-candidate}
-use Rattle.spans.proofs.Builds.{is-true}
 use Rattle.spans.proofs.Indices.{without, without-keep, choiceIn, numbers-in, in-numbers}
 use Rattle.tables.specs.Prepared.{Prepared, Sooner, listAt}
 use Rattle.tables.proofs.PartLaws.{same-or-not}
