@@ -1,10 +1,12 @@
 -- Each exported contract determines the outcome: two results, with what a lent output holds afterwards, that both meet it at the same input
 -- are equal. `Post` is the contract as it is read from the source. Assumes nothing.
-use mathlib.Core.Path.{_≡_, sym, _∙_}
+use mathlib.Core.Path.{_≡_, sym, ap, _∙_}
 use contract.Lifetimes.{Lfts}
 use denote.Ref.{now}
 use denote.Triple.Clauses.{AtExit}
 use borrow.Fn.Kinds.{Dens, resT, endedOf}
+use Rattle.builds.proofs.Determined.{answered-one}
+use Rattle.firmware.specs.Flat.{walkAnswer}
 use Rattle.firmware.proofs.belfrymist_admit.Kinds as admit
 use Rattle.firmware.proofs.belfrymist_admit.Reads as admit-reads
 use Rattle.firmware.proofs.belfrymist_entry.Kinds as entry
@@ -17,6 +19,8 @@ use Rattle.firmware.proofs.belfrymist_fetch.Kinds as fetch
 use Rattle.firmware.proofs.belfrymist_fetch.Reads as fetch-reads
 use Rattle.firmware.proofs.writing.belfrymist_write.Kinds as write
 use Rattle.firmware.proofs.writing.belfrymist_write.Reads as write-reads
+use Rattle.firmware.proofs.walking.belfrymist_walk.Kinds as walk
+use Rattle.firmware.proofs.walking.belfrymist_walk.Reads as walk-reads
 
 module _ (κs : Lfts 1) where
   -- what admitting answers
@@ -48,3 +52,10 @@ module _ (κs : Lfts 1) where
 pub write-one : (κs : Lfts 4) (a : Dens κs write.ps) (r r′ : resT write.r κs .Denot) (e e′ : AtExit (endedOf 4 write.ps write.r) κs)
     → write-reads.Post κs a r e → write-reads.Post κs a r′ e′ → (r ≡ r′) × (now (e .1 .1 .1 .1 .1 .0) ≡ now (e′ .1 .1 .1 .1 .1 .0))
 write-one κs a r r′ e e′ p q = (p .0 ∙ sym (q .0), p .1 ∙ sym (q .1))
+
+-- what walking lists answers, and the output afterwards
+pub walk-one : (κs : Lfts 4) (a : Dens κs walk.ps) (r r′ : resT walk.r κs .Denot) (e e′ : AtExit (endedOf 4 walk.ps walk.r) κs)
+    → walk-reads.Post κs a r e → walk-reads.Post κs a r′ e′ → (r ≡ r′) × (now (e .1 .1 .1 .1 .1 .0) ≡ now (e′ .1 .1 .1 .1 .1 .0))
+walk-one κs a r r′ e e′ p q =
+    let one = answered-one (p .answered) (q .answered) in
+    (p .told ∙ ap walkAnswer (one .0) ∙ sym (q .told), one .1)

@@ -1,16 +1,27 @@
 -- In every struct that has a number, 0 says that nothing was refused: a refusal's number is above 0. Assumes nothing.
-use mathlib.Core.Path.{_≡_}
+use mathlib.Core.Path.{_≡_, refl}
 use mathlib.Core.List.{List}
 use Prim.Native.Nat.{ℕ, _<_}
-use Rattle.answers.specs.Answer.{refused, sound, first}
-use Rattle.answers.proofs.Numbered.{numbered-refused}
+use native.Mathlib.Omega.{arith}
+use lib.ListN.{length}
+use Rattle.answers.specs.Numbers.{Room}
+use Rattle.answers.specs.Answer.{given, refused, sound, first}
+use Rattle.answers.proofs.Numbered.{Numbered, none, also, numbered-append, numbered-refused}
 use Rattle.block.specs.Block.{fetchTests}
 use Rattle.block.proofs.Laws.{fetch-numbered}
 use Rattle.card.specs.Fetching.{admission, entryFetch, stepping}
 use Rattle.card.proofs.RefusalNumbers.{admission-number, entry-number, step-number}
 use Rattle.writer.specs.Writing.{writing}
 use Rattle.writer.proofs.RefusalNumbers.{writing-number}
-use Rattle.firmware.specs.Flat.{admitAnswer, entryAnswer, stepAnswer, heldAnswer, writeAnswer}
+use Rattle.entries.specs.Fault.{span}
+use Rattle.layout.specs.Bounds.{mostEntries}
+use Rattle.lists.proofs.Laws.{lists-numbered}
+use Rattle.walk.specs.declared.Walked.{Walked}
+use Rattle.walk.specs.declared.Walked.the-variants.{Sole, Several, None, Unsettled}
+use Rattle.builds.specs.Walking.{walkTests, Answered, walked, refuses}
+use Rattle.builds.specs.declared.WalkAnswer as walking
+use Rattle.firmware.specs.declared.walking.WalkAnswer.{WalkAnswer}
+use Rattle.firmware.specs.Flat.{admitAnswer, entryAnswer, stepAnswer, heldAnswer, writeAnswer, walkedAnswer, walkAnswer, WalkTold}
 
 module _ (limit : ℕ) (card : List ℕ) {n p : ℕ} where
   pub admit-tells : admission limit card ≡ refused n p → 0 < admitAnswer (admission limit card) .number
@@ -30,3 +41,33 @@ pub write-tells : (limit kind l : ℕ) (words ones twos : List ℕ) (room : ℕ)
     → writing limit kind l words ones twos room ≡ refused n p
     → 0 < writeAnswer (writing limit kind l words ones twos room) .number
 write-tells limit kind l words ones twos room e = rw e (writing-number limit kind l words ones twos room e)
+
+-- ---- the walk, whose contract is a relation: both ways
+
+walk-numbered : (l : ℕ) (words ones twos : List ℕ) (room : ℕ) → Numbered (walkTests l words ones twos room)
+unfolding walkTests
+walk-numbered l words ones twos room =
+    numbered-append (lists-numbered mostEntries span l words ones twos) (also {n = Room} (omega arith) none)
+
+walked-zero : (w : Walked) → walkedAnswer w .number ≡ 0
+walked-zero (Sole n) = refl
+walked-zero (Several n) = refl
+walked-zero (None n) = refl
+walked-zero (Unsettled n) = refl
+
+module _ {l budget : ℕ} {words ones twos before after : List ℕ} {result : WalkAnswer} where
+  pub walk-tells : WalkTold l words ones twos budget before result after → {n p : ℕ}
+      → first (walkTests l words ones twos (length before)) sound ≡ refused n p → 0 < result .number
+  walk-tells w e = rw (w .told) (go (w .answered))
+    where
+      go : {r : walking.WalkAnswer} → Answered l words ones twos budget before r after → 0 < walkAnswer r .number
+      go (walked hold _ _) = let z : _≡_ {A = ℕ} 0 1 = cc in absurd (omega arith)
+      go (refuses fails _) = numbered-refused (walk-numbered l words ones twos (length before)) sound fails
+
+  pub walk-zero : WalkTold l words ones twos budget before result after
+      → first (walkTests l words ones twos (length before)) sound ≡ given sound → result .number ≡ 0
+  walk-zero w e = rw (w .told) (go (w .answered))
+    where
+      go : {r : walking.WalkAnswer} → Answered l words ones twos budget before r after → walkAnswer r .number ≡ 0
+      go (walked {r = w′} _ _ _) = walked-zero w′
+      go (refuses fails _) = let z : _≡_ {A = ℕ} 0 1 = cc in absurd (omega arith)

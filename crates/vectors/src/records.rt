@@ -3,9 +3,11 @@ ghost use Prim.Native.Nat.{_+_, _*_, _≤_};
 ghost use Rattle.vectors.specs.Line.{lineBytes, digits};
 use crate::fields;
 use crate::fields::Field;
+use crate::fields::OLD_WORD;
 use crate::fields::SLOTS;
 use crate::hashes;
 use crate::lines::Line;
+use crate::walking;
 use crate::writing;
 use answers::Held;
 use card::Admitted;
@@ -16,9 +18,7 @@ use entries::Entry;
 use entries::Format;
 use entries::Places;
 
-// What stands in each slot of a list before the call.
-const OLD_WORD: u32 = 305419896;
-
+// What a slot of lent places holds before the call.
 const OLD_PLACE: u16 = 4660;
 
 // A card: its kind, l and m.
@@ -160,6 +160,7 @@ pub fn answer(tag: u8, card: &[u8]) -> bool {
         b'L' => lists(card),
         b'W' => writing::of_lists(),
         b'R' => writing::again(card),
+        b'S' => walking::of_lists(),
         _ => numbered(tag, card),
     }
 }
