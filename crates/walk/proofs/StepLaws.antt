@@ -128,6 +128,15 @@ module _ (slots words marks : List ℕ) (i want w : ℕ) where
 
 -- ---- what is due
 
+module _ (twos marks : List ℕ) (i e : ℕ) where
+  pub due-elsewhere : (getD twos e 0 ≡ i → ⊥) → isDue twos marks i e ≡ false
+  unfolding isDue
+  due-elsewhere h = rw (ne-eqb (getD twos e 0) i h) (and-false (isLeft marks e))
+
+  pub due-here : getD twos e 0 ≡ i → isDue twos marks i e ≡ isLeft marks e
+  unfolding isDue
+  due-here h = rw (eq-eqb (getD twos e 0) i h) (and-true (isLeft marks e))
+
 module _ (slots twos marks : List ℕ) (i lo hi : ℕ) where
   abbrev dues : List ℕ → List ℕ
   dues = keep (isDue twos marks i)

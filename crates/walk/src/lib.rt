@@ -74,10 +74,10 @@ fn is_due(twos: &[u16], marks: &[u8], e: usize, i: usize) -> bool
     requires { ⌜ (e < length (now twos)) × (e < length (now marks)) ⌝ }
     ensures { λ r. ⌜ r ≡ isDue (now (twos .entry)) (now (marks .entry)) i e ⌝ }
 {
-    if marks[e] != 0 {
+    if at16(twos, e) != i {
         return false;
     }
-    at16(twos, e) == i
+    marks[e] == 0
 }
 
 // Of the slots lo to hi those that may be tried at i: all, the one whose entry ends at i, or none where several end there.

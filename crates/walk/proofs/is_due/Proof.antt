@@ -1,23 +1,21 @@
 -- `is_due` meets its contract, test by test. Assumes nothing.
+use mathlib.Core.Path.{sym, _∙_}
 use borrow.Author.Needs.{needs}
-use borrow.Author.Tests.{eq-eqb, ne-eqb}
-use Rattle.walk.specs.Steps.{isDue}
+use Rattle.walk.proofs.StepLaws.{due-elsewhere, due-here}
 use Rattle.walk.proofs.is_due.Statement.{statement}
 use Rattle.walk.proofs.is_due.Tie as tie
-
-shared-slice-read-if1 : tie.Need-shared-slice-read-if1
-shared-slice-read-if1 c = search needs
-
-returns : tie.Need-returns
-unfolding isDue
-returns c = rw (ne-eqb _ _ (c .if1 .taken))
 
 at16-requires : tie.Need-at16-requires
 at16-requires c κs = search needs
 
+returns : tie.Need-returns
+returns c = sym (due-elsewhere _ _ _ _ (λ e. c .if1 .taken (c .before .at16 .ensures ∙ e)))
+
+shared-slice-read-result : tie.Need-shared-slice-read-result
+shared-slice-read-result c = search needs
+
 returns-2 : tie.Need-returns-2
-unfolding isDue
-returns-2 c = rw (eq-eqb _ _ (c .before .if1 .left), c .at16 .ensures)
+returns-2 c = let at = c .before in sym (due-here _ _ _ _ (sym (at .before .at16 .ensures) ∙ at .if1 .left))
 
 pub is-due-spec : {M : Type 1} → statement M
-is-due-spec = tie.close (tie.spec shared-slice-read-if1 returns at16-requires returns-2)
+is-due-spec = tie.close (tie.spec at16-requires returns shared-slice-read-result returns-2)
