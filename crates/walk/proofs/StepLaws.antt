@@ -1,6 +1,6 @@
 -- Laws of the slots of a place: what is due, what is opened, and what is tried from a slot on. Assumes nothing.
 use mathlib.Core.Path.{_≡_, refl, sym, ap, _∙_}
-use mathlib.Core.Bool.{Bool, true, false, cond, _&&_}
+use mathlib.Core.Bool.{Bool, true, false, cond, _&&_, not}
 use mathlib.Core.List.{List, [], _∷_, _++_}
 use Prim.Native.Nat.{ℕ, zero, suc, _+_, _-_, _/_, _≤_, _<_}
 use native.Mathlib.Omega.{arith}
@@ -12,7 +12,7 @@ use borrow.Author.Tests.{lt-ltb, le-ltb, eq-eqb, ne-eqb}
 use Rattle.answers.proofs.Tests.{both}
 use Rattle.sequence.specs.Lists.{In, first, later, keep}
 use Rattle.tables.specs.Prepared.{part, listAt}
-use Rattle.walk.specs.Steps.{isLeft, able, isDue, opened, canTry, tries, ahead, Listed, Opened, Next}
+use Rattle.walk.specs.Steps.{isLeft, agrees, able, isDue, opened, canTry, tries, ahead, Listed, Opened, Next}
 
 -- ---- parts
 
@@ -45,24 +45,38 @@ and-true : (b : Bool) → b && true ≡ b
 and-true true = refl
 and-true false = refl
 
+module _ (i want w : ℕ) where
+  pub agrees-by-word : w / 4 ≡ want → agrees i want w ≡ true
+  agrees-by-word h = rw (eq-eqb (w / 4) want h) (go (eqb i 0))
+    where
+      go : (b : Bool) → cond b true true ≡ true
+      go true = refl
+      go false = refl
+
+  pub agrees-by-place : (w / 4 ≡ want → ⊥) → agrees i want w ≡ eqb i 0
+  agrees-by-place h = rw (ne-eqb (w / 4) want h) (go (eqb i 0))
+    where
+      go : (b : Bool) → cond b true false ≡ b
+      go true = refl
+      go false = refl
+
 module _ (words marks : List ℕ) (i want w e : ℕ) where
+  pub can-try-apart : agrees i want (getD words e 0) ≡ false → canTry words marks i want w e ≡ false
+  unfolding canTry
+  can-try-apart h = rw h (go (isLeft marks e))
+    where
+      go : (b : Bool) → b && false && not (eqb (getD words e 0) w) ≡ false
+      go true = refl
+      go false = refl
+
   pub can-try-marked : (getD marks e 0 ≡ 0 → ⊥) → canTry words marks i want w e ≡ false
   unfolding canTry
   can-try-marked h = rw (ne-eqb (getD marks e 0) 0 h)
 
-  pub can-try-tried : getD words e 0 ≡ w → canTry words marks i want w e ≡ false
+  pub can-try-new : agrees i want (getD words e 0) ≡ true → getD marks e 0 ≡ 0
+      → canTry words marks i want w e ≡ not (eqb (getD words e 0) w)
   unfolding canTry
-  can-try-tried h = rw (eq-eqb (getD words e 0) w h) (and-false (able words marks i want e))
-
-  module _ (free : getD marks e 0 ≡ 0) (other : getD words e 0 ≡ w → ⊥) where
-    pub can-try-first : i ≡ 0 → canTry words marks i want w e ≡ true
-    unfolding canTry
-    can-try-first h = rw (eq-eqb (getD marks e 0) 0 free, ne-eqb (getD words e 0) w other, eq-eqb i 0 h)
-
-    pub can-try-later : (i ≡ 0 → ⊥) → canTry words marks i want w e ≡ eqb (getD words e 0 / 4) want
-    unfolding canTry
-    can-try-later h =
-        rw (eq-eqb (getD marks e 0) 0 free, ne-eqb (getD words e 0) w other, ne-eqb i 0 h) (and-true (eqb (getD words e 0 / 4) want))
+  can-try-new h free = rw (h, eq-eqb (getD marks e 0) 0 free)
 
 -- ---- the next that is tried
 

@@ -7,7 +7,7 @@ ghost use lib.ListN.{length, getD, set, take};
 ghost use Rattle.tables.specs.Spans.{Spans};
 ghost use Rattle.tables.specs.Room.{Room};
 ghost use Rattle.walk.specs.Walked.{mostBudget, entriesIn, Walks};
-ghost use Rattle.walk.specs.Steps.{Unmarked, walkedAt, canTry, isDue, Listed, Opened, Next, Placed};
+ghost use Rattle.walk.specs.Steps.{Unmarked, walkedAt, agrees, canTry, isDue, Listed, Opened, Next, Placed};
 ghost use Rattle.walk.specs.Going.{Ready, Went};
 
 // How far a walk has come: the placements made, and the builds that are complete, or 3 where the budget is spent.
@@ -51,22 +51,29 @@ fn start_of(s: &[u32], k: usize) -> usize
     s[k] as usize
 }
 
+// Whether the word w may stand at the place i, after a word whose last letters are `want`.
+fn agrees(w: u32, i: usize, want: u32) -> bool
+    ensures { λ r. ⌜ r ≡ agrees i want w ⌝ }
+{
+    if w / 4 == want {
+        return true;
+    }
+    i == 0
+}
+
 // Whether the entry e can be tried at the place i, where `tried` was the last word tried.
 fn can_try(words: &[u32], marks: &[u8], e: usize, i: usize, want: u32, tried: u32) -> bool
     requires { ⌜ (e < length (now words)) × (e < length (now marks)) ⌝ }
     ensures { λ r. ⌜ r ≡ canTry (now (words .entry)) (now (marks .entry)) i want tried e ⌝ }
 {
+    let w = words[e];
+    if !agrees(w, i, want) {
+        return false;
+    }
     if marks[e] != 0 {
         return false;
     }
-    let w = words[e];
-    if w == tried {
-        return false;
-    }
-    if i == 0 {
-        return true;
-    }
-    w / 4 == want
+    w != tried
 }
 
 // Whether the entry e is left and ends at i.
