@@ -26,7 +26,7 @@ const UNSETTLED: usize = 4;
 /// The hard cards for each number of letters.
 const CARDS: usize = 2;
 /// The rounds that each side takes on a hard card.
-const WALK_ROUNDS: usize = 7;
+const WALK_ROUNDS: usize = 15;
 /// The rounds that each side takes to prepare tables.
 const TABLE_ROUNDS: usize = 41;
 
