@@ -1,6 +1,5 @@
 -- Walking the lists of a span card, with the tests of the lists and of the output (01, "What can come back"): a refusal leaves the
--- output as
--- it was, and so does a walk that gives no build.
+-- output as it was, and so does a walk that gives no build.
 --   walkTests l words ones twos room       == the tests, in their order: those of the lists of a span card, then 12
 --   wordsAfter r ws before                 == the output after the walk's answer r, where it was `before` and ws are the words of the build
 --   Answered l words ones twos budget before r after

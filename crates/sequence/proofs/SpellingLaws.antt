@@ -38,10 +38,6 @@ standing-chain (stands a f more) = goes f (standing-chain more)
 abbrev lasts : List ℕ → List ℕ
 lasts ws = map (λ w. w % 4) ws
 
-pub spell-nil : (l : ℕ) → spell l [] ≡ []
-unfolding spell
-spell-nil l = refl
-
 -- the letters of the first word, and the last letter of each other
 pub spell-is : (l w : ℕ) (ws : List ℕ) → spell l (w ∷ ws) ≡ lettersOf l w ++ map (λ v. v % 4) ws
 unfolding spell

@@ -1,6 +1,7 @@
 -- What is answered on a span card under a budget, and what it means (01, "The walk on span cards", and demands 2 and 3).
 --   spanEntries es           == the entries of a span card, with their allowed places
---   Entered l es             == entries that the entry rules admit: there is one, each word has l letters, each span is one
+--   Entered l es             == entries that the entry rules admit: there is one, each word has l letters, no span ends
+--                               before it begins
 --   Worded l es ws           == ws are the words of an arrangement of the entries, in order
 --   verdictOn l bs           == the verdict by the builds bs in their order
 --   outcome l es budget      == what the walk comes to

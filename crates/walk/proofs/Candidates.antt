@@ -1,6 +1,5 @@
 -- Who is a candidate at a place, by the place's list alone: those that are left and agree, out of all of it, the one that is due, or
--- nothing
--- where several are due. It holds where no entry that is left ends before the place. Assumes nothing.
+-- nothing where several are due. It holds where no entry that is left ends before the place. Assumes nothing.
 use mathlib.Core.Path.{_≡_, refl, sym, ap, _∙_}
 use mathlib.Core.Logic.{_⊎_, inl, inr, ⊎-elim}
 use mathlib.Core.Bool.{Bool, true, false, _&&_, not, true≢false}

@@ -1,4 +1,4 @@
--- `KeepLaws`: those of a list that pass a test.
+-- `KeepLaws`: tests, and those of a list that pass one.
 -- `StepLaws`: the slots of a place: what is due, what is opened, and what is tried from a slot on.
 -- `Candidates`: who is a candidate at a place, by the place's list alone.
 -- `RunLaws`: the run at a place, as the code makes it.

@@ -17,7 +17,7 @@ use Rattle.spans.specs.Run.{Run, searching, one, two, spent, reach}
 use Rattle.spans.proofs.Order.{firsts, firstsAfter}
 use Rattle.walk.specs.Steps.{isLeft, spanAt, left, tries, Placed}
 use Rattle.walk.specs.Going.{Shows, none-yet, one-build, two-builds, stopped}
-use Rattle.walk.proofs.KeepLaws.{keep-same}
+use Rattle.walk.proofs.KeepLaws.{and-false, and-true, keep-same}
 
 -- ---- folds
 
@@ -78,15 +78,7 @@ left-set marks e k h = go (eqb k e) refl
   where
     go : (t : Bool) → eqb k e ≡ t → isLeft (set marks e 1) k ≡ (isLeft marks k && not t)
     go true q = rw (eqb-true k e q, getD-set-same marks e 1 0 h) (sym (and-false (isLeft marks e)))
-      where
-        and-false : (b : Bool) → b && false ≡ false
-        and-false true = refl
-        and-false false = refl
     go false q = rw (getD-set-other marks e k 1 0 (eqb-false k e q)) (sym (and-true (isLeft marks k)))
-      where
-        and-true : (b : Bool) → b && true ≡ b
-        and-true true = refl
-        and-true false = refl
 
 pub left-marked : (words ones twos marks : List ℕ) (e : ℕ) → e < length marks
     → left words ones twos (set marks e 1)

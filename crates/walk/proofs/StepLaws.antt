@@ -13,6 +13,7 @@ use Rattle.answers.proofs.Tests.{both}
 use Rattle.sequence.specs.Lists.{In, first, later, keep}
 use Rattle.tables.specs.Prepared.{part, listAt}
 use Rattle.walk.specs.Steps.{isLeft, agrees, able, isDue, opened, canTry, tries, ahead, Listed, Opened, Next}
+use Rattle.walk.proofs.KeepLaws.{and-false, and-true}
 
 -- ---- parts
 
@@ -36,14 +37,6 @@ in-part xs lo hi x h g there = go (x - lo) lo (omega arith)
     go (suc n) from e = rw (part-cons xs from hi (omega arith) there) (later (go n (from + 1) (omega arith)))
 
 -- ---- the test of one entry, by its outcomes
-
-and-false : (b : Bool) → b && false ≡ false
-and-false true = refl
-and-false false = refl
-
-and-true : (b : Bool) → b && true ≡ b
-and-true true = refl
-and-true false = refl
 
 module _ (i want w : ℕ) where
   pub agrees-by-word : w / 4 ≡ want → agrees i want w ≡ true

@@ -260,8 +260,7 @@ fn outcome_of(t: Tally, budget: u32) -> Walked
 }
 
 // The walk over lists that the entry rules admit. Where it gives a build, `first` begins with the words of the alphabetically first one;
-// the
-// other lent lists are its tables, and are left as the walk needs them.
+// the other lent lists are its tables, and are left as the walk needs them.
 pub fn walk(
     l: usize,
     words: &[u32],

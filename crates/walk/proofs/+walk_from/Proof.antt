@@ -1,6 +1,6 @@
 -- `walk_from` meets its contract. What falls is the number of unplaced entries, m − i; in the loop hi − k falls, and `Looping` holds:
--- the marks
--- are as at the call, and for every reader of the definition the run has come so far. The laws are those of `Held`. Assumes nothing.
+-- the marks are as at the call, and for every reader of the definition the run has come so far. The laws are those of `Held`.
+-- Assumes nothing.
 use Prim.Native.Nat.{ℕ, _+_, _-_, _<_}
 use mathlib.Core.Path.{_≡_, sym, ap, _∙_}
 use Rattle.tables.specs.Prepared.{part}
