@@ -1,0 +1,3 @@
+pub mod Pigeons
+pub mod Extends
+pub mod Places

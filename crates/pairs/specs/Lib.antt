@@ -1,0 +1,3 @@
+pub mod Arranged
+pub mod Chosen
+pub mod Described
