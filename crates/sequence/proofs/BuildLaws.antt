@@ -1,6 +1,6 @@
--- Laws of arrangements and builds: an arrangement has all the entries, its words are a chain, a build has m+l−1 letters, and the l letters
--- from each place on are those of a word. Assumes nothing.
-use mathlib.Core.Path.{_≡_}
+-- Laws of arrangements and builds: an arrangement has all the entries, its words are a chain and those that it spells, a build has m+l−1
+-- letters, and the l letters from each place on are those of a word. Assumes nothing.
+use mathlib.Core.Path.{_≡_, sym, ap, _∙_}
 use mathlib.Core.List.{List}
 use Prim.Native.Nat.{ℕ, _+_, _^_, _<_}
 use native.Mathlib.Omega.{arith}
@@ -8,10 +8,10 @@ use lib.ListN.{length, getD, take, drop, length-map}
 use Rattle.entries.specs.declared.Entry.{Entry}
 use Rattle.sequence.specs.Lists.{In}
 use Rattle.sequence.specs.Arrangement.{Arrangement, words}
-use Rattle.sequence.specs.Build.{lettersOf, Build}
+use Rattle.sequence.specs.Build.{lettersOf, spell, Build, Worded}
 use Rattle.sequence.proofs.ListLaws.{in-map}
 use Rattle.sequence.proofs.ReorderedLaws.{reordered-length, reordered-in}
-use Rattle.sequence.proofs.SpellingLaws.{Chained, standing-chain, spell-length, spell-window}
+use Rattle.sequence.proofs.SpellingLaws.{Chained, standing-chain, spell-one, spell-length, spell-window}
 
 -- ---- arrangements
 
@@ -25,6 +25,19 @@ arrangement-chained {l} {es} {order} fits a = record { chain = standing-chain (a
   where
     fit : (w : ℕ) → In w (words order) → w < 4 ^ l
     fit w h = let u = in-map (λ e. e .word) order h in rw (u .2) (fits (u .0) (reordered-in (a .each) (u .1)))
+
+-- the words of an arrangement are a chain, as many as there are entries
+pub worded-chained : {l : ℕ} {es : List Entry} → ((e : Entry) → In e es → e .word < 4 ^ l) → {ws : List ℕ} → Worded l es ws → Chained l ws
+worded-chained fits w = rw (w .in-order) (arrangement-chained fits (w .arrangement))
+
+pub worded-length : {l : ℕ} {es : List Entry} {ws : List ℕ} → Worded l es ws → length ws ≡ length es
+worded-length w = ap length (w .in-order) ∙ words-length (w .arrangement)
+
+-- the words of an arrangement are those that it spells
+pub worded-one : {l : ℕ} {es : List Entry} → ((e : Entry) → In e es → e .word < 4 ^ l) → {ws vs : List ℕ} → Worded l es ws → Worded l es vs
+    → spell l ws ≡ spell l vs
+    → ws ≡ vs
+worded-one fits w v = spell-one (worded-chained fits w) (worded-chained fits v) (worded-length w ∙ sym (worded-length v))
 
 -- ---- builds
 

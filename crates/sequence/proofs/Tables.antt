@@ -5,7 +5,8 @@ use mathlib.Core.List.{List, map}
 use Rattle.sequence.specs.Lists.{In, first, later}
 use Rattle.sequence.specs.Arrangement.{overlaps}
 use Rattle.sequence.specs.Verdict.{Verdict}
-use Rattle.sequence.specs.Tables.{Table, spanTables, Told}
+use Rattle.sequence.specs.Tables.{Table, pairTables, spanTables, tables, Told}
+use Rattle.sequence.proofs.ListLaws.{in-append-left, in-append-right}
 use Rattle.sequence.proofs.Enumerator.{sequences}
 use Rattle.sequence.proofs.VerdictOf.{verdictOf, enumerated}
 
@@ -22,9 +23,18 @@ map-agree f g (later {xs} h) e = let others : map f xs ≡ map g xs = cc in map-
 pub tables-told : (ts : List Table) → map decided ts ≡ map (λ t. t .verdict) ts → Told ts
 tables-told ts e t h = rw (map-agree decided (λ u. u .verdict) h e) at (enumerated 2 (t .entries))
 
-spans-decided : map decided spanTables ≡ map (λ t. t .verdict) spanTables
+all-decided : map decided tables ≡ map (λ t. t .verdict) tables
 unfolding verdictOf sequences overlaps
-spans-decided = refl
+all-decided = refl
 
+-- the twelve tables
+pub all-told : Told tables
+all-told = tables-told tables all-decided
+
+-- P1 to P7
+pub pairs-told : Told pairTables
+pairs-told t h = all-told t (in-append-left spanTables h)
+
+-- S1 to S5
 pub spans-told : Told spanTables
-spans-told = tables-told spanTables spans-decided
+spans-told t h = all-told t (in-append-right pairTables h)

@@ -1,12 +1,14 @@
 -- The small tables of 01 ("Twelve small tables", "Written word{places} or word[first,last], l = 2"), as a list.
 --   entry x y places      == the entry with the word xy
+--   pairTables            == P1 to P7
 --   spanTables            == S1 to S5
+--   tables                == all twelve
 --   Told ts               == of each table in ts the verdict is true
 -- Assumes nothing.
-use mathlib.Core.List.{List, [], _∷_}
+use mathlib.Core.List.{List, [], _∷_, _++_}
 use Prim.Native.Nat.{ℕ, _+_, _*_}
 use Rattle.entries.specs.declared.Places.{Places}
-use Rattle.entries.specs.declared.Places.the-variants.{Span}
+use Rattle.entries.specs.declared.Places.the-variants.{One, Two, Span}
 use Rattle.entries.specs.declared.Entry.{Entry}
 use Rattle.sequence.specs.Lists.{In}
 use Rattle.sequence.specs.Build.{Build}
@@ -31,6 +33,51 @@ G = 2
 -- "first letter most significant"
 abbrev pub entry : ℕ → ℕ → Places → Entry
 entry x y places = record { word = 4 * x + y; places = places }
+
+-- "On a pair card placements are 0"
+abbrev pub p1 : Table
+p1 =
+    record {
+      entries = entry A C (Two 0 2) ∷ entry C A (Two 1 3) ∷ entry A G (Two 0 2) ∷ entry G A (Two 1 3) ∷ [];
+      verdict = several (A ∷ C ∷ A ∷ G ∷ A ∷ []);
+      placements = 0;
+    }
+
+abbrev pub p2 : Table
+p2 =
+    record {
+      entries = entry A C (One 0) ∷ entry C A (Two 1 3) ∷ entry A G (Two 0 2) ∷ entry G A (Two 1 3) ∷ [];
+      verdict = sole (A ∷ C ∷ A ∷ G ∷ A ∷ []);
+      placements = 0;
+    }
+
+abbrev pub p3 : Table
+p3 =
+    record {
+      entries = entry A C (One 2) ∷ entry C A (Two 1 3) ∷ entry A G (Two 0 2) ∷ entry G A (Two 1 3) ∷ [];
+      verdict = sole (A ∷ G ∷ A ∷ C ∷ A ∷ []);
+      placements = 0;
+    }
+
+abbrev pub p4 : Table
+p4 =
+    record {
+      entries = entry A C (One 0) ∷ entry C A (Two 1 3) ∷ entry A G (Two 0 2) ∷ entry G A (One 1) ∷ [];
+      verdict = noBuild;
+      placements = 0;
+    }
+
+abbrev pub p5 : Table
+p5 = record { entries = entry A A (Two 0 1) ∷ entry A A (Two 0 1) ∷ []; verdict = sole (A ∷ A ∷ A ∷ []); placements = 0 }
+
+abbrev pub p6 : Table
+p6 = record { entries = entry A C (One 0) ∷ []; verdict = sole (A ∷ C ∷ []); placements = 0 }
+
+abbrev pub p7 : Table
+p7 = record { entries = entry A C (One 1) ∷ entry C A (One 1) ∷ []; verdict = noBuild; placements = 0 }
+
+abbrev pub pairTables : List Table
+pairTables = p1 ∷ p2 ∷ p3 ∷ p4 ∷ p5 ∷ p6 ∷ p7 ∷ []
 
 abbrev pub s1 : Table
 s1 =
@@ -69,6 +116,9 @@ s5 = record { entries = entry A C (Span 0 0) ∷ entry C A (Span 0 0) ∷ []; ve
 
 abbrev pub spanTables : List Table
 spanTables = s1 ∷ s2 ∷ s3 ∷ s4 ∷ s5 ∷ []
+
+abbrev pub tables : List Table
+tables = pairTables ++ spanTables
 
 abbrev pub Told : List Table → Type 0
 Told ts = (t : Table) → In t ts → Tells (Build 2 (t .entries)) (t .verdict)
