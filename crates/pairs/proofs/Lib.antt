@@ -1,3 +1,20 @@
+-- `Pigeons`: numbers below n that are sent to different numbers below n reach every number below n.
+-- `Extends`: a closed choice extends to an arrangement wherever there is one, and an arrangement fills every place.
+-- `Places`: one place more of the first build, by the entries that can stand there.
+-- `Skips`: numbers with one left out, and put back, and maps of places with one place more or less.
+-- `Undone`: maps of the numbers below n that can be undone.
+-- `Reindexed`: a list in another order, by the index that each place has its member from.
+-- `Listed`: a list by what it has at each place.
+-- `PlaceByPlace`: entries that can stand in their places, said of each place.
+-- `Ordered`: an arrangement as the order of the entries, and as the place of each entry: the one gives the other.
+-- `Told`: what the method finds is the verdict on the card.
 pub mod Pigeons
 pub mod Extends
 pub mod Places
+pub mod Skips
+pub mod Undone
+pub mod Reindexed
+pub mod Listed
+pub mod PlaceByPlace
+pub mod Ordered
+pub mod Told

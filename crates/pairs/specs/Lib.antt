@@ -1,3 +1,5 @@
+-- `Arranged` is an arrangement as the place of each entry, `Chosen` the entries placed so far and what is found of the first build,
+-- `Described` the entries of a card by their numbers, and the verdict by the number of free choices.
 pub mod Arranged
 pub mod Chosen
 pub mod Described

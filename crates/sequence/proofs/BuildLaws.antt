@@ -26,10 +26,11 @@ arrangement-chained {l} {es} {order} fits a = record { chain = standing-chain (a
     fit : (w : ℕ) → In w (words order) → w < 4 ^ l
     fit w h = let u = in-map (λ e. e .word) order h in rw (u .2) (fits (u .0) (reordered-in (a .each) (u .1)))
 
--- the words of an arrangement are a chain, as many as there are entries
+-- the words of an arrangement are a chain
 pub worded-chained : {l : ℕ} {es : List Entry} → ((e : Entry) → In e es → e .word < 4 ^ l) → {ws : List ℕ} → Worded l es ws → Chained l ws
 worded-chained fits w = rw (w .in-order) (arrangement-chained fits (w .arrangement))
 
+-- as many as there are entries
 pub worded-length : {l : ℕ} {es : List Entry} {ws : List ℕ} → Worded l es ws → length ws ≡ length es
 worded-length w = ap length (w .in-order) ∙ words-length (w .arrangement)
 
@@ -40,6 +41,10 @@ pub worded-one : {l : ℕ} {es : List Entry} → ((e : Entry) → In e es → e 
 worded-one fits w v = spell-one (worded-chained fits w) (worded-chained fits v) (worded-length w ∙ sym (worded-length v))
 
 -- ---- builds
+
+-- what the words of an arrangement spell is a build
+pub worded-build : {l : ℕ} {es : List Entry} {ws : List ℕ} → Worded l es ws → Build l es (spell l ws)
+worded-build {l} w = record { order = w .order; arrangement = w .arrangement; spelled = ap (spell l) (w .in-order) }
 
 module _ {l : ℕ} {es : List Entry} {s : List ℕ} (b : Build l es s) where
   -- "A build has m+l−1 letters"

@@ -4,7 +4,7 @@ use mathlib.Core.Logic.{_⊎_, inl, inr, ⊎-elim, ⊎-map}
 use mathlib.Core.List.{List, [], _∷_, _++_}
 use Prim.Native.Nat.{ℕ, zero, suc, _<_}
 use native.Mathlib.Omega.{arith}
-use lib.ListN.{length}
+use lib.ListN.{length, getD}
 use Rattle.sequence.specs.Verdict.{Before}
 
 pub before-asym : (s t : List ℕ) → Before s t → Before t s → ⊥
@@ -56,3 +56,13 @@ before-or-after (a ∷ s) [] = inr (inr tt)
 before-or-after (a ∷ s) (d ∷ t) =
     ⊎-elim (λ e. ⊎-map (λ f. cc) (⊎-map (λ b. inr (e, b)) (λ b. inr (sym e, b))) (before-or-after s t)) (λ h. inr (⊎-map inl inl h))
     (less-or-more a d)
+
+-- of two sequences of one length, the one that has the smaller member where they first differ comes before the other
+pub first-differs : (s t : List ℕ) (at : ℕ) → length s ≡ length t → at < length s → ((i : ℕ) → i < at → getD s i 0 ≡ getD t i 0)
+    → getD s at 0 < getD t at 0
+    → Before s t
+first-differs [] t at n h same less = absurd (omega arith)
+first-differs (a ∷ s) [] at n h same less = absurd (omega arith)
+first-differs (a ∷ s) (d ∷ t) zero n h same less = inl less
+first-differs (a ∷ s) (d ∷ t) (suc at) n h same less =
+    inr (same 0 (omega arith), first-differs s t at (omega arith) (omega arith) (λ i g. same (suc i) (omega arith)) less)
