@@ -8,6 +8,7 @@
 -- `PlaceByPlace`: entries that can stand in their places, said of each place.
 -- `Ordered`: an arrangement as the order of the entries, and as the place of each entry: the one gives the other.
 -- `Told`: what the method finds is the verdict on the card.
+-- `Meant`: what an answer means determines it; two cards, the second of which allows more.
 pub mod Pigeons
 pub mod Extends
 pub mod Places
@@ -18,3 +19,4 @@ pub mod Listed
 pub mod PlaceByPlace
 pub mod Ordered
 pub mod Told
+pub mod Meant
