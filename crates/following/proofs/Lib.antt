@@ -1,0 +1,3 @@
+pub mod Forcing
+pub mod Slots
+pub mod CommonLaws

@@ -1,0 +1,134 @@
+-- `following::rid` meets its contract: three calls in a row. Assumes nothing.
+use mathlib.Core.Path.{_≡_, _∙_}
+use Prim.Native.Nat.{_<_}
+use borrow.Author.Needs.{needs}
+use lib.ListN.{length, getD}
+use Rattle.following.proofs.Forcing.{went-stops, went-ok, went-none, rid-whole}
+use Rattle.following.proofs.rid.Statement.{statement}
+use Rattle.following.proofs.rid.Tie as tie
+use Rattle.following.proofs.rid.Reads as reads
+use Rattle.following.proofs.rid.Lts as lts
+use Rattle.following.proofs.clear.Reads as clear-reads
+use Rattle.following.proofs.near.Reads as near-reads
+
+abbrev start : tie.After-clear → tie.Start
+start c = c .before .before .before .before .before .before .before .before .before .before
+
+-- after the first call, after the second, and after the third
+abbrev one : tie.After-slice-known5 → tie.After-clear
+one c = c .before .before .before .before
+
+abbrev two : tie.After-slice-known7 → tie.After-near
+two c = c .before .before .before .before
+
+abbrev past-one : tie.After-near → tie.Then1
+past-one c = c .before .before .before
+
+abbrev three : tie.After-slice-known9 → tie.After-near2
+three c = c .before .before .before .before
+
+abbrev past-two : tie.After-near2 → tie.Then2
+past-two c = c .before .before .before
+
+-- src/lib.rt:203:13
+mul-p : tie.Need-mul-p
+mul-p c = search needs
+
+-- src/lib.rt:203:13
+slice-read-p : tie.Need-slice-read-p
+slice-read-p c = search needs
+
+-- src/lib.rt:204:9
+clear-requires : tie.Need-clear-requires
+clear-requires c κs = search needs
+
+-- src/lib.rt:206:69
+add-near : tie.Need-add-near
+add-near c = search needs
+
+-- src/lib.rt:206:13
+near-requires : tie.Need-near-requires
+near-requires c κs =
+    let a = one (c .before .before .before) in
+    let pre = start a .pre in
+    let w = a .clear .ensures in (
+      record { card = pre .0 .card; links = pre .0 .links; shape = w .shape },
+      (pre .1 .0, rw (w .traced .keeps _ (pre .1 .0) (pre .1 .1)) (pre .1 .1)),
+    )
+
+-- src/lib.rt:208:13
+near-requires-2 : tie.Need-near-requires-2
+near-requires-2 c κs =
+    let b = two (c .before .before .before) in
+    let a = one (past-one b .before) in
+    let pre = start a .pre in
+    let w = b .near .ensures in
+    let same = a .clear .ensures .traced .keeps _ (pre .1 .0) (pre .1 .1) in (
+      record { card = pre .0 .card; links = pre .0 .links; shape = w .shape },
+      (pre .1 .0, rw (w .traced .keeps _ (pre .1 .0) (rw same (pre .1 .1)) ∙ same) (pre .1 .1)),
+    )
+
+-- src/lib.rt:208:13
+same-length : tie.Need-same-length
+same-length c = search needs
+
+-- src/lib.rt:208:13
+same-length-2 : tie.Need-same-length-2
+same-length-2 c = search needs
+
+-- src/lib.rt:208:13
+returns : tie.Need-returns
+returns c =
+    let d = three c in
+    let b = two (past-two d .before) in
+    let a = one (past-one b .before) in
+    let pre = start a .pre in
+    rid-whole (pre .1 .0) (pre .1 .1) (went-ok (past-one b .if1 .taken) (a .clear .ensures))
+    (went-ok (past-two d .if2 .taken) (b .near .ensures)) (d .near2 .ensures)
+
+-- src/lib.rt:210:9
+same-length-3 : tie.Need-same-length-3
+same-length-3 c = search needs
+
+-- src/lib.rt:210:9
+same-length-4 : tie.Need-same-length-4
+same-length-4 c = search needs
+
+-- src/lib.rt:210:9
+returns-2 : tie.Need-returns-2
+returns-2 c =
+    let b = two (c .before) in
+    let a = one (past-one b .before) in
+    went-stops (c .if2 .left) (went-ok (past-one b .if1 .taken) (a .clear .ensures)) (b .near .ensures)
+
+-- src/lib.rt:188:1
+same-length-5 : tie.Need-same-length-5
+same-length-5 c = search needs
+
+-- src/lib.rt:188:1
+same-length-6 : tie.Need-same-length-6
+same-length-6 c = search needs
+
+-- src/lib.rt:188:1
+returns-3 : tie.Need-returns-3
+returns-3 c = went-none (c .if1 .left) (one (c .before) .clear .ensures)
+
+pub rid-spec : {M : Type 1} → statement M
+rid-spec =
+    tie.close
+    (tie.spec
+    mul-p
+    slice-read-p
+    clear-requires
+    add-near
+    near-requires
+    near-requires-2
+    same-length
+    same-length-2
+    returns
+    same-length-3
+    same-length-4
+    returns-2
+    same-length-5
+    same-length-6
+    returns-3)
