@@ -1,6 +1,6 @@
 -- The laws of `row` and `inTurn`. Assumes nothing.
 use mathlib.Core.Path.{_≡_, refl, sym, ap, _∙_}
-use mathlib.Core.List.{List, [], _∷_, _++_, append-assoc, append-nil}
+use mathlib.Core.List.{List, [], _∷_, _++_, map, append-assoc, append-nil}
 use Prim.Native.Nat.{ℕ, zero, suc, _+_, _*_, _-_, _<_}
 use native.Mathlib.Omega.{arith}
 use lib.ListN.{length, getD, length-append}
@@ -45,6 +45,12 @@ module _ {A : Type 0} (f : ℕ → A) where
       let later : (i : ℕ) → i < n → f (suc k + i) ≡ g (suc k + i) =
       λ i h. let next : k + suc i ≡ suc k + i = omega arith in rw next at (each (suc i) (omega arith)) in
       ap (λ (x : A). x ∷ row f (suc k) n) here ∙ ap (λ (xs : List A). g k ∷ xs) (row-same g (suc k) n later)
+
+-- a row of which each element is changed
+pub map-row : {A B : Type 0} (g : A → B) (f : ℕ → A) (k n : ℕ) → map g (row f k n) ≡ row (λ i. g (f i)) k n
+unfolding row
+map-row g f k zero = refl
+map-row {B} g f k (suc n) = ap (λ (xs : List B). g (f k) ∷ xs) (map-row g f (suc k) n)
 
 -- a list is the row of its elements
 pub row-of : {A : Type 0} (d : A) (xs : List A) → row (λ i. getD xs i d) 0 (length xs) ≡ xs

@@ -1,4 +1,5 @@
--- What the places of a sound entry are: each allowed place is a place of the card, and a span's are those from its first to its last.
+-- What the places of a sound entry are: each allowed place is a place of the card, a span's are those from its first to its last, and
+-- those of a pair card are one or two.
 -- Assumes nothing.
 use mathlib.Core.Path.{_≡_, refl}
 use mathlib.Core.Logic.{⊎-elim}
@@ -9,7 +10,7 @@ use lib.Dec.{leb, ltb, eqb}
 use borrow.Author.Tests.{ltb-true, leb-true, eqb-true}
 use Rattle.answers.proofs.Tests.{both, either}
 use Rattle.entries.specs.declared.Places.the-variants.{One, Two, Span}
-use Rattle.entries.specs.Fault.{span, widest, noPlace, isPlace, pairHolds, spanHolds, placesHold}
+use Rattle.entries.specs.Fault.{pair, span, widest, noPlace, isPlace, pairHolds, spanHolds, placesHold}
 use Rattle.entries.specs.declared.Slot.{Slot}
 use Rattle.entries.specs.Entry.{placesOf, entryOf, allows}
 
@@ -54,3 +55,17 @@ allowed-below kind m one two p = go (eqb kind span) (eqb two noPlace) refl
 pub span-entry : (s : Slot) → entryOf span s ≡ record { word = s .word; places = Span (s .one) (s .two) }
 unfolding entryOf placesOf
 span-entry s = refl
+
+-- an entry of a pair card
+pub pair-entry : (s : Slot)
+    → entryOf pair s ≡ record { word = s .word; places = cond (eqb (s .two) noPlace) (One (s .one)) (Two (s .one) (s .two)) }
+unfolding entryOf placesOf
+pair-entry s = refl
+
+-- its places are places of the card
+pub pair-below : (m one two p : ℕ) → pairHolds m one two ≡ true → allows (cond (eqb two noPlace) (One one) (Two one two)) p ≡ true → p < m
+pair-below m one two p h = go (eqb two noPlace) refl
+  where
+    go : (n : Bool) → eqb two noPlace ≡ n → allows (cond n (One one) (Two one two)) p ≡ true → p < m
+    go true e a = one-below m one two p h a
+    go false e a = two-below m one two p h e a

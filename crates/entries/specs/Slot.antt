@@ -2,10 +2,12 @@
 --   slotAt b j      == the slot j of the block b, from 0
 --   slotBytes s     == the bytes of the slot s
 --   slotFrom words ones twos e    == entry e of three lists, as it is stored
+--   entriesIn words ones twos     == the entries of the lists, in the order of their indices
 -- Assumes nothing.
 use Prim.Native.Nat.{ℕ, _+_, _*_}
 use mathlib.Core.List.{List, _++_}
-use lib.ListN.{getD}
+use lib.ListN.{length, getD}
+use Rattle.answers.specs.Row.{row}
 use Rattle.block.specs.Bytes.{twoAt, fourAt, twoBytes, fourBytes}
 use Rattle.entries.specs.declared.Slot.{Slot}
 
@@ -26,3 +28,6 @@ slotBytes s = fourBytes (s .word) ++ (twoBytes (s .one) ++ twoBytes (s .two))
 
 unfoldable pub slotFrom : List ℕ → List ℕ → List ℕ → ℕ → Slot
 slotFrom words ones twos e = record { word = getD words e 0; one = getD ones e 0; two = getD twos e 0 }
+
+abbrev pub entriesIn : List ℕ → List ℕ → List ℕ → List Slot
+entriesIn words ones twos = row (slotFrom words ones twos) 0 (length words)

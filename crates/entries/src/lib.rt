@@ -23,7 +23,7 @@ pub const MOST_LENGTH: usize = 12;
 // How wide a span may be.
 pub const WIDEST: u16 = 8;
 // What stands for place two where there is no second place.
-const NO_PLACE: u16 = 65535;
+pub const NO_PLACE: u16 = 65535;
 // How many words there are of 0, 1, 2, … letters.
 const WORDS: [u32; MOST_LENGTH + 1] = [
     1,

@@ -42,7 +42,7 @@ letters-one l w v h g e =
     (λ k. absurd (before-irr (lettersOf l v) (rw e at (letters-before l v w g h k)))))
     (less-or-more w v)
 
-pow-pos : (k : ℕ) → 0 < 4 ^ k
+pub pow-pos : (k : ℕ) → 0 < 4 ^ k
 pow-pos zero = omega arith
 pow-pos (suc k) = let h = pow-pos k in omega arith
 

@@ -1,0 +1,104 @@
+-- A pair card's lists, as the method takes them: the tables have the entries of the card, and what is found is the verdict on it. Assumes
+-- nothing.
+use mathlib.Core.Path.{_≡_, refl, sym, ap, _∙_}
+use mathlib.Core.Logic.{_⊎_, inl, inr, ⊎-map, ⊎-elim}
+use mathlib.Core.Bool.{Bool, true, cond}
+use mathlib.Core.List.{List, map}
+use Prim.Native.Nat.{ℕ, _+_, _*_, _-_, _/_, _%_, _^_, _<_}
+use native.Mathlib.Omega.{arith}
+use lib.Dec.{eqb}
+use lib.ListN.{length, getD, length-map}
+use Rattle.answers.proofs.RowLaws.{length-row, map-row, row-at}
+use Rattle.entries.specs.declared.Entry.{Entry}
+use Rattle.entries.specs.declared.Slot.{Slot}
+use Rattle.entries.specs.declared.Places.the-variants.{One, Two}
+use Rattle.entries.specs.Entry.{allows, entryOf}
+use Rattle.entries.specs.Fault.{pair, noPlace}
+use Rattle.entries.specs.Slot.{slotFrom, entriesIn}
+use Rattle.entries.proofs.Allowed.{pair-entry, pair-below}
+use Rattle.entries.proofs.SlotLaws.{slot-from}
+use Rattle.sequence.specs.Arrangement.{overlaps}
+use Rattle.sequence.proofs.LetterLaws.{pow-pos, overlap-is, is-overlap}
+use Rattle.pairs.specs.Arranged.{Inside, Stands}
+use Rattle.pairs.specs.Described.{Described}
+use Rattle.pairs.specs.Settling.{pairEntries}
+use Rattle.pairs.proofs.Told.{found-worded, found-tells, none-tells}
+use Rattle.following.specs.Following.{Card, pairsOf}
+use Rattle.following.proofs.Forcing.{inside-of, slot-of}
+use Rattle.pairing.specs.Built.{Builds}
+use Rattle.pairing.specs.Paired.{PairCard, secondOf, PlacesFrom, Gives}
+use Rattle.pairing.proofs.PlacesLaws.{allowed-two, two-allowed}
+
+module _ {l : ℕ} {words ones twos : List ℕ} (k : PairCard l words ones twos) {at : List ℕ} (p : PlacesFrom ones twos at) {cut : ℕ}
+    (c : cut ≡ 4 ^ (l - 1)) where
+  -- ---- the places of an entry
+
+  module _ (e : ℕ) (h : e < length words) where
+    in-ones : e < length ones
+    in-ones = omega (arith, k .ones-too)
+
+    -- each is a place of the card
+    below : (q : ℕ) → (q ≡ getD ones e 0) ⊎ (q ≡ secondOf (getD ones e 0) (getD twos e 0)) → q < length words
+    below q x =
+        pair-below (length words) (getD ones e 0) (getD twos e 0) q (k .holds e h) (two-allowed (getD ones e 0) (getD twos e 0) q x)
+
+    one-below : getD at (2 * e) 0 < length words
+    one-below = rw (p .one e in-ones) (below (getD ones e 0) (inl refl))
+
+    two-below : getD at (2 * e + 1) 0 < length words
+    two-below = rw (p .two e in-ones) (below (secondOf (getD ones e 0) (getD twos e 0)) (inr refl))
+
+    -- the entry of the card
+    entry-is : (d : Entry) → getD (pairEntries (entriesIn words ones twos)) e d
+        ≡ record {
+          word = getD words e 0;
+          places = cond (eqb (getD twos e 0) noPlace) (One (getD ones e 0)) (Two (getD ones e 0) (getD twos e 0));
+        }
+    entry-is d =
+        ap (λ (xs : List Entry). getD xs e d) (map-row (entryOf pair) (slotFrom words ones twos) 0 (length words))
+        ∙ row-at (λ i. entryOf pair (slotFrom words ones twos i)) d 0 (length words) e h
+        ∙ ap (λ (i : ℕ). entryOf pair (slotFrom words ones twos i)) (omega arith)
+        ∙ ap (entryOf pair) (slot-from words ones twos e)
+        ∙ pair-entry (record { word = getD words e 0; one = getD ones e 0; two = getD twos e 0 })
+
+    stands-two : (q : ℕ) → (q ≡ getD ones e 0) ⊎ (q ≡ secondOf (getD ones e 0) (getD twos e 0)) → Stands (pairsOf at words cut) e q
+    stands-two q x = ⊎-map (λ y. y ∙ sym (p .one e in-ones)) (λ y. y ∙ sym (p .two e in-ones)) x
+
+    two-stands : (q : ℕ) → Stands (pairsOf at words cut) e q → (q ≡ getD ones e 0) ⊎ (q ≡ secondOf (getD ones e 0) (getD twos e 0))
+    two-stands q x = ⊎-map (λ y. y ∙ p .one e in-ones) (λ y. y ∙ p .two e in-ones) x
+
+  -- ---- the tables
+
+  pub card-of : Card at words cut
+  card-of = record { slots = p .slots ∙ ap (λ (n : ℕ). 2 * n) (k .ones-too); inside = inside; cuts = rw c (pow-pos (l - 1)) }
+    where
+      inside : (x : ℕ) → x < length at → getD at x 0 < length words
+      inside x h =
+          let e : x / 2 < length words = omega (arith, p .slots, k .ones-too) in
+          ⊎-elim (λ y. rw y (one-below (x / 2) e)) (λ y. rw y (two-below (x / 2) e)) (slot-of {x = x})
+
+  described : Described l (pairEntries (entriesIn words ones twos)) (pairsOf at words cut)
+  described =
+      record {
+        many = length-map (entriesIn words ones twos) (entryOf pair) ∙ length-row (slotFrom words ones twos) 0 (length words);
+        some-entry = k .some-entry;
+        some-letter = k .some-letter;
+        inside = inside-of card-of;
+        fits = k .fits;
+        word = λ d e h. ap (λ (x : Entry). x .word) (entry-is e h d);
+        allowed = λ d e q h a. stands-two e h q (allowed-two (getD ones e 0) (getD twos e 0) q (rw (entry-is e h d) at a));
+        allows-it = λ d e q h s. rw (entry-is e h d) (two-allowed (getD ones e 0) (getD twos e 0) q (two-stands e h q s));
+        meets = λ e f g h o. rw c (overlap-is l (getD words e 0) (getD words f 0) o);
+        met = λ e f g h o. is-overlap l (getD words e 0) (getD words f 0) (rw c at o);
+      }
+
+  -- ---- the verdict
+
+  pub gives : {ws : List ℕ} {n : ℕ} {found : Bool} → length ws ≡ length words → Builds (pairsOf at words cut) ws n found
+      → Gives l (entriesIn words ones twos) found n ws
+  gives {ws} {n} all b =
+      record {
+        worded = λ h. found-worded described ws n all (b .yes h);
+        told = λ h. found-tells described ws n all (b .yes h);
+        none = λ h. none-tells described (b .no h);
+      }

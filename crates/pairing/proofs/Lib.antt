@@ -1,0 +1,4 @@
+pub mod Linked
+pub mod PlacesLaws
+pub mod CardLaws
+pub mod Built
