@@ -5,7 +5,8 @@ use second::entry::{Entry, Places};
 use second::lists::Lists;
 use second::reader::{self, Head};
 use second::refusal::Refusal;
-use second::walk::{self, Verdict, Walked};
+use second::verdict::{Verdict, Walked};
+use second::walk;
 use second::writer;
 
 use crate::answers::{Admitted, EntryAnswer, Held, Part, StepAnswer, WalkAnswer, WriteAnswer};

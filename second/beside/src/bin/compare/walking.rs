@@ -4,7 +4,7 @@ use beside::independent;
 use second::cards::Random;
 use second::lists::Lists;
 use second::spans::{any_slots, any_spans};
-use second::walk::Verdict;
+use second::verdict::Verdict;
 
 use crate::lent::Lent;
 use crate::lists::{shown, LentLists};
