@@ -258,7 +258,7 @@ pub fn perhaps_without(random: &mut Random, l: usize, m: usize, letters: usize) 
 }
 
 /// Draws the word or the places of an entry anew.
-pub fn disturb(random: &mut Random, lists: &mut Lists, letters: usize) {
+fn disturb(random: &mut Random, lists: &mut Lists, letters: usize) {
     let m = lists.words.len();
     let i = random.below(m);
     if random.once_in(2) {
@@ -268,25 +268,31 @@ pub fn disturb(random: &mut Random, lists: &mut Lists, letters: usize) {
     }
 }
 
-/// Any sound lists of m words, of which most have a build.
+/// Up to twice draws the word or the places of an entry anew.
+fn perhaps_disturb(random: &mut Random, lists: &mut Lists, letters: usize) {
+    for _ in 0..random.below(3) {
+        disturb(random, lists, letters);
+    }
+}
+
+/// Any sound lists, of which most have a build.
+///
+/// They have m words of l letters, but some have words of two letters, and
+/// these are of an even number.
 pub fn any_sound_pairs(random: &mut Random, l: usize, m: usize, letters: usize) -> Lists {
     match random.below(16) {
         0 => Lists::sound(random, Kind::Pair, l as u8, m as u16),
         1..=3 => {
             let half = random.between(l, (m / 2).max(l));
             let mut lists = with_choices(random, l, m, half);
-            for _ in 0..random.below(3) {
-                disturb(random, &mut lists, 4);
-            }
+            perhaps_disturb(random, &mut lists, 4);
             shuffle(random, &mut lists);
             lists
         }
         4 => beside_a_ring(l, m, random.pick(&[[0, 1], [1, 0], [3, 2]])),
         5 if m > 2 => {
             let mut lists = at_odds(m - m % 2);
-            for _ in 0..random.below(3) {
-                disturb(random, &mut lists, 2);
-            }
+            perhaps_disturb(random, &mut lists, 2);
             lists
         }
         5..=10 => with_build(random, l, m, letters),

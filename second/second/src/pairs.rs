@@ -82,9 +82,7 @@ fn neighbours_tied(l: u8, entries: &[Entry], rings: &Rings) -> Option<Ties> {
     let mut ties = Ties::of_none(rings.count);
     for pair in rings.stands.windows(2) {
         let (left, right) = (pair[0], pair[1]);
-        let allowed = SIDES_OF_TWO
-            .into_iter()
-            .filter(|&(a, b)| overlap(left.sides[a], right.sides[b]));
+        let allowed = SIDES_OF_TWO.map(|(a, b)| overlap(left.sides[a], right.sides[b]));
         if !is_tied(&mut ties, left.ring, right.ring, allowed) {
             return None;
         }
@@ -98,12 +96,9 @@ fn neighbours_tied(l: u8, entries: &[Entry], rings: &Rings) -> Option<Ties> {
 /// allowed, or none, or one, or two. What they have in common tells them from
 /// the others: the side of one ring, or of each, or the turn between the two.
 /// Where both are one ring, its turn to itself is 0, and no other can hold.
-fn is_tied(
-    ties: &mut Ties,
-    left: usize,
-    right: usize,
-    allowed: impl Iterator<Item = (Side, Side)> + Clone,
-) -> bool {
+fn is_tied(ties: &mut Ties, left: usize, right: usize, allowed: [bool; 4]) -> bool {
+    let all = SIDES_OF_TWO.into_iter().zip(allowed);
+    let allowed = all.filter(|(_, allowed)| *allowed).map(|(sides, _)| sides);
     let common = |turn: fn((Side, Side)) -> Side| {
         let mut turns = allowed.clone().map(turn);
         let first = turns.next()?;

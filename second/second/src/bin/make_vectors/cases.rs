@@ -1,8 +1,7 @@
 //! The cases of the vectors: each rule and edge by itself, then many at once.
 //!
 //! Where a case is made for one rule, the answer is stated beside it as the
-//! scope document gives it, and the program stops if the library says
-//! otherwise.
+//! scope document gives it, and the program stops if `second` says otherwise.
 
 mod faults;
 mod pairing;
