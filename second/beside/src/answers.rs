@@ -89,7 +89,8 @@ pub struct WriteAnswer {
     pub length: usize,
 }
 
-/// What the walk answers; all fields but number and place are 0 where it is refused.
+/// What the walk and the verdict on pair lists answer; all fields but number and place are 0 where
+/// it is refused.
 #[repr(C)]
 #[derive(Clone, Copy, Debug, Default, PartialEq, Eq)]
 pub struct WalkAnswer {
@@ -99,6 +100,6 @@ pub struct WalkAnswer {
     pub place: usize,
     /// 1 for Sole, 2 for Several, 3 for None, 4 for Unsettled.
     pub verdict: usize,
-    /// The placements up to the verdict, or the budget where it is Unsettled.
+    /// The placements up to the verdict, or the budget where it is Unsettled; 0 for pair lists.
     pub placements: usize,
 }

@@ -37,6 +37,17 @@ mod exported {
             out: *mut u32,
             out_len: usize,
         ) -> WalkAnswer;
+        pub fn belfrymist_pairs(
+            l: usize,
+            words: *const u32,
+            words_len: usize,
+            ones: *const u16,
+            ones_len: usize,
+            twos: *const u16,
+            twos_len: usize,
+            out: *mut u32,
+            out_len: usize,
+        ) -> WalkAnswer;
     }
 }
 
@@ -83,6 +94,18 @@ mod exported {
                 twos: *const u16,
                 twos_len: usize,
                 budget: u32,
+                out: *mut u32,
+                out_len: usize,
+            );
+            pub fn belfrymist_pairs(
+                answer: *mut WalkAnswer,
+                l: usize,
+                words: *const u32,
+                words_len: usize,
+                ones: *const u16,
+                ones_len: usize,
+                twos: *const u16,
+                twos_len: usize,
                 out: *mut u32,
                 out_len: usize,
             );
@@ -173,11 +196,40 @@ mod exported {
         );
         answer
     }
+
+    // The arguments are those of the function as C declares it.
+    #[allow(clippy::too_many_arguments)]
+    pub unsafe fn belfrymist_pairs(
+        l: usize,
+        words: *const u32,
+        words_len: usize,
+        ones: *const u16,
+        ones_len: usize,
+        twos: *const u16,
+        twos_len: usize,
+        out: *mut u32,
+        out_len: usize,
+    ) -> WalkAnswer {
+        let mut answer = WalkAnswer::default();
+        placed::belfrymist_pairs(
+            &mut answer,
+            l,
+            words,
+            words_len,
+            ones,
+            ones_len,
+            twos,
+            twos_len,
+            out,
+            out_len,
+        );
+        answer
+    }
 }
 
 use exported::{
-    belfrymist_admit, belfrymist_companion, belfrymist_entry, belfrymist_fetch, belfrymist_step,
-    belfrymist_walk, belfrymist_write,
+    belfrymist_admit, belfrymist_companion, belfrymist_entry, belfrymist_fetch, belfrymist_pairs,
+    belfrymist_step, belfrymist_walk, belfrymist_write,
 };
 
 /// Admits the card.
@@ -259,6 +311,24 @@ pub fn walk(
             twos.as_ptr(),
             twos.len(),
             budget,
+            out.as_mut_ptr(),
+            out.len(),
+        )
+    }
+}
+
+/// Judges the pair card whose entries stand in three lists.
+pub fn pairs(l: usize, words: &[u32], ones: &[u16], twos: &[u16], out: &mut [u32]) -> WalkAnswer {
+    // SAFETY: as for `write`.
+    unsafe {
+        belfrymist_pairs(
+            l,
+            words.as_ptr(),
+            words.len(),
+            ones.as_ptr(),
+            ones.len(),
+            twos.as_ptr(),
+            twos.len(),
             out.as_mut_ptr(),
             out.len(),
         )

@@ -5,7 +5,8 @@ use second::entry::{Entry, Places};
 use second::lists::Lists;
 use second::reader::{self, Head};
 use second::refusal::Refusal;
-use second::walk::{self, Verdict, Walked};
+use second::verdict::{Verdict, Walked};
+use second::walk;
 use second::writer;
 
 use crate::answers::{Admitted, EntryAnswer, Held, Part, StepAnswer, WalkAnswer, WriteAnswer};
@@ -137,7 +138,29 @@ pub fn walk(
     budget: u32,
     out: &mut [u32],
 ) -> WalkAnswer {
-    match walk::walk(l, words, ones, twos, budget, out) {
+    walk_answer(walk::walk(l, words, ones, twos, budget, out))
+}
+
+/// The same, with the lists as they were drawn.
+pub fn walk_lists(lists: &Lists, budget: u32, out: &mut [u32]) -> WalkAnswer {
+    let Lists {
+        l,
+        words,
+        ones,
+        twos,
+        ..
+    } = lists;
+    walk(*l, words, ones, twos, budget, out)
+}
+
+/// Judges the pair card whose entries stand in lists as they were drawn.
+pub fn pair_lists(lists: &Lists, out: &mut [u32]) -> WalkAnswer {
+    walk_answer(lists.pairs(out))
+}
+
+/// What a call that looks for builds answers.
+fn walk_answer(answer: Result<Walked, Refusal>) -> WalkAnswer {
+    match answer {
         Ok(Walked {
             verdict,
             placements,
@@ -155,18 +178,6 @@ pub fn walk(
             }
         }
     }
-}
-
-/// The same, with the lists as they were drawn.
-pub fn walk_lists(lists: &Lists, budget: u32, out: &mut [u32]) -> WalkAnswer {
-    let Lists {
-        l,
-        words,
-        ones,
-        twos,
-        ..
-    } = lists;
-    walk(*l, words, ones, twos, budget, out)
 }
 
 /// The number of a verdict.

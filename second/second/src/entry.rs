@@ -15,6 +15,30 @@ pub enum Places {
     Span(u16, u16),
 }
 
+impl Places {
+    /// Every allowed place, from the lowest on.
+    pub fn each(self) -> impl Iterator<Item = usize> {
+        let (run, second) = match self {
+            Places::One(place) => (place..=place, None),
+            Places::Two(one, two) => (one..=one, Some(two)),
+            Places::Span(first, last) => (first..=last, None),
+        };
+        run.chain(second).map(usize::from)
+    }
+
+    /// The other of two places, where this is one of them.
+    pub fn besides(self, place: usize) -> Option<usize> {
+        let Places::Two(one, two) = self else {
+            return None;
+        };
+        match (usize::from(one), usize::from(two)) {
+            (one, two) if place == one => Some(two),
+            (one, two) if place == two => Some(one),
+            _ => None,
+        }
+    }
+}
+
 /// A word with its allowed places.
 #[derive(Clone, Copy, Debug, PartialEq, Eq)]
 pub struct Entry {
@@ -130,6 +154,20 @@ mod tests {
         assert_eq!(meant(0, NONE), Err(Reason::Places));
         assert_eq!(meant(NONE, 0), Err(Reason::Places));
         assert_eq!(meant(NONE, NONE), Err(Reason::Places));
+    }
+
+    #[test]
+    fn the_places_one_by_one() {
+        let each = |places: Places| places.each().collect::<Vec<usize>>();
+        assert_eq!(each(Places::One(3)), [3]);
+        assert_eq!(each(Places::Two(3, 7)), [3, 7]);
+        assert_eq!(each(Places::Span(3, 6)), [3, 4, 5, 6]);
+        assert_eq!(each(Places::Span(3, 3)), [3]);
+
+        assert_eq!(Places::Two(3, 7).besides(3), Some(7));
+        assert_eq!(Places::Two(3, 7).besides(7), Some(3));
+        assert_eq!(Places::Two(3, 7).besides(5), None);
+        assert_eq!(Places::One(3).besides(3), None);
     }
 
     #[test]

@@ -1,22 +1,25 @@
-//! What the writer and the walk are given, for tests: sound and damaged lists, drawn from a seed.
+//! What calls on lists are given, for tests: sound and damaged lists, drawn from a seed.
 //!
 //! Nothing here judges the lists: damage may by chance leave them sound.
 
 use crate::cards::{any_count, Draft, Random};
 use crate::entry::Stored;
+use crate::given::Given;
 use crate::numbers::{
     BLOCK, ENTRIES_PER_BLOCK, MOST_ENTRIES, MOST_LETTERS, NO_PLACE, SPAN_WIDTH, THE_FORM,
 };
+use crate::pairs;
 use crate::profile::Kind;
 use crate::reader;
 use crate::refusal::Refusal;
-use crate::walk::{self, Walked};
+use crate::verdict::Walked;
+use crate::walk;
 use crate::writer;
 
 /// The most elements of a list that is drawn.
 pub const LONGEST_LIST: u16 = 600;
 
-/// What the writer or the walk is given, sound or not.
+/// What a call on lists is given, sound or not.
 #[derive(Clone, Debug, PartialEq, Eq)]
 pub struct Lists {
     /// The kind's number.
@@ -126,6 +129,15 @@ impl Lists {
         self.twos.resize(twos, 0);
     }
 
+    /// The three lists as they are lent to a call.
+    pub fn given(&self) -> Given<'_> {
+        Given {
+            words: &self.words,
+            ones: &self.ones,
+            twos: &self.twos,
+        }
+    }
+
     /// Has the writer write them.
     pub fn write(&self, out: &mut [u8]) -> Result<usize, Refusal> {
         writer::write(self.kind, self.l, &self.words, &self.ones, &self.twos, out)
@@ -141,6 +153,18 @@ impl Lists {
             ..
         } = self;
         walk::walk(*l, words, ones, twos, budget, out)
+    }
+
+    /// Has them judged as pair lists, whatever their kind.
+    pub fn pairs(&self, out: &mut [u32]) -> Result<Walked, Refusal> {
+        let Lists {
+            l,
+            words,
+            ones,
+            twos,
+            ..
+        } = self;
+        pairs::pairs(*l, words, ones, twos, out)
     }
 }
 

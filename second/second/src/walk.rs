@@ -7,28 +7,7 @@ use crate::entry::Stored;
 use crate::given::Given;
 use crate::profile::{Kind, Profile};
 use crate::refusal::{Reason, Refusal};
-
-/// What the walk finds.
-#[derive(Clone, Copy, Debug, PartialEq, Eq)]
-pub enum Verdict {
-    /// There is exactly one build.
-    Sole,
-    /// There are two builds or more.
-    Several,
-    /// There is no build.
-    None,
-    /// The budget does not reach to the verdict.
-    Unsettled,
-}
-
-/// What the walk answers where it is not refused.
-#[derive(Clone, Copy, Debug, PartialEq, Eq)]
-pub struct Walked {
-    /// What was found.
-    pub verdict: Verdict,
-    /// The placements up to the verdict, or the budget where it is Unsettled.
-    pub placements: u32,
-}
+use crate::verdict::{Verdict, Walked};
 
 /// Walks over the span card whose entries stand in three lists.
 ///
@@ -193,6 +172,6 @@ impl Walk {
 }
 
 #[cfg(test)]
-mod arrangements;
+mod placements;
 #[cfg(test)]
 mod tests;

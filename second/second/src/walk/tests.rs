@@ -1,13 +1,14 @@
 //! Tests of the walk.
 
-use super::arrangements::{builds, placements, verdict};
-use super::{Verdict, Walked};
+use super::placements::{placements, verdict};
+use crate::arrangements::builds;
 use crate::cards::Random;
 use crate::entry::Stored;
 use crate::lists::Lists;
 use crate::profile::Kind;
 use crate::refusal::{Reason, Refusal};
 use crate::spans::{any_spans, around, perhaps_without, with_build, words_in};
+use crate::verdict::{Verdict, Walked};
 
 /// What every slot of an output holds before the call.
 const BEFORE: u32 = 305_419_896;
@@ -157,14 +158,9 @@ fn every_arrangement_of_small_cards() {
             0 => with_build(&mut random, l, m, letters, 8),
             _ => perhaps_without(&mut random, l, m, letters),
         };
-        let builds = builds(&lists);
+        let builds = builds(&lists, Kind::Span);
         let (found, count) = verdict(&placements(&lists));
-        let by_builds = match builds.len() {
-            0 => Verdict::None,
-            1 => Verdict::Sole,
-            _ => Verdict::Several,
-        };
-        assert_eq!(found, by_builds, "{lists:?}");
+        assert_eq!(found, Verdict::of_count(builds.len()), "{lists:?}");
         let first = builds.first().cloned().unwrap_or_default();
         let wanted = expected(found, count, &first, m);
         assert_eq!(walked(&lists, u32::MAX, m), wanted, "{lists:?}");

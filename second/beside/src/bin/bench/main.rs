@@ -1,6 +1,7 @@
-//! Times the compiled library on the same bytes as the second implementation, and on the same
-//! lists as the walk in plain C.
+//! Times the compiled library on the same bytes and pair lists as the second implementation, and on
+//! the same span lists as the walk in plain C.
 
+mod pairing;
 mod timing;
 mod walking;
 
@@ -153,7 +154,7 @@ fn cards() -> bool {
 }
 
 fn main() -> ExitCode {
-    if cards() && walking::walks(SEED) {
+    if cards() && pairing::pair_lists(SEED) && walking::walks(SEED) {
         ExitCode::SUCCESS
     } else {
         ExitCode::FAILURE

@@ -54,6 +54,17 @@ impl LentLists {
         )
     }
 
+    /// Has the library judge them as pair lists, whatever their kind.
+    pub fn pairs(&self, out: &mut [u32]) -> WalkAnswer {
+        firmware::pairs(
+            self.l,
+            self.words.elements(),
+            self.ones.elements(),
+            self.twos.elements(),
+            out,
+        )
+    }
+
     /// Says which element of a list the call changed, if there is one.
     pub fn changed(&self) -> Option<String> {
         let words = self.words.differs().map(|at| ("words", at));
@@ -78,8 +89,18 @@ impl LentLists {
     }
 }
 
+/// Says which slot of the words lent as output differs from what it must be, if there is one.
+pub fn slots_differ(out: &Lent<u32>) -> Option<String> {
+    let at = out.differs()?;
+    Some(format!(
+        "slot {at} of the output differs (guard slots are outside it)\nlibrary {}\nwanted  {}",
+        shown(out.elements()),
+        shown(out.wanted()),
+    ))
+}
+
 /// The elements of a list; a very long one is cut.
-pub fn shown<T: Element + Debug>(list: &[T]) -> String {
+fn shown<T: Element + Debug>(list: &[T]) -> String {
     const SHOWN: usize = 600;
     let more = if list.len() > SHOWN { " and more" } else { "" };
     let front = &list[..list.len().min(SHOWN)];

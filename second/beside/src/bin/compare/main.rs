@@ -5,6 +5,7 @@
 
 mod lent;
 mod lists;
+mod pairing;
 mod reading;
 mod walking;
 mod writing;
@@ -43,6 +44,7 @@ impl Comparison {
             self.round(&mut random, &lent)?;
             self.write(&mut random)?;
             self.walk(&mut random)?;
+            self.judge(&mut random)?;
         }
         Ok(())
     }

@@ -4,10 +4,10 @@ use beside::independent;
 use second::cards::Random;
 use second::lists::Lists;
 use second::spans::{any_slots, any_spans};
-use second::walk::Verdict;
+use second::verdict::Verdict;
 
 use crate::lent::Lent;
-use crate::lists::{shown, LentLists};
+use crate::lists::{slots_differ, LentLists};
 use crate::{difference, Comparison};
 
 /// The walking calls for each card that is read.
@@ -43,7 +43,7 @@ impl Comparison {
         let library = lent.walk(budget, out.elements_mut());
         let second = independent::walk_lists(lists, budget, out.wanted_mut());
         let differs = difference(library, second)
-            .or_else(|| output_differs(&out))
+            .or_else(|| slots_differ(&out))
             .or_else(|| lent.changed());
         match differs {
             None => Ok(()),
@@ -77,14 +77,4 @@ fn any_budget(random: &mut Random, lists: &Lists) -> u32 {
             random.pick(&[own, own, less, less, own + 1, own / 2, 0, beyond])
         }
     }
-}
-
-/// Says which slot of the output differs from what it must be, if there is one.
-fn output_differs(out: &Lent<u32>) -> Option<String> {
-    let at = out.differs()?;
-    Some(format!(
-        "slot {at} of the output differs (guard slots are outside it)\nlibrary {}\nwanted  {}",
-        shown(out.elements()),
-        shown(out.wanted()),
-    ))
 }

@@ -90,7 +90,7 @@ impl Comparison {
                 long.push(stored);
             }
             let room = sound.size();
-            self.both(random, &long, room)?;
+            self.by_all(random, &long, room)?;
             for list in 0..3 {
                 let mut lists = sound.clone();
                 match list {
@@ -98,18 +98,19 @@ impl Comparison {
                     1 => lists.ones.clone_from(&long.ones),
                     _ => lists.twos.clone_from(&long.twos),
                 }
-                self.both(random, &lists, room)?;
+                self.by_all(random, &lists, room)?;
             }
             long.resize(BEYOND, BEYOND, BEYOND);
-            self.both(random, &long, room)?;
+            self.by_all(random, &long, room)?;
         }
         Ok(())
     }
 
-    /// Makes a writing call and a walking call on lists that both must refuse.
-    fn both(&mut self, random: &mut Random, lists: &Lists, room: usize) -> Result<(), String> {
+    /// Makes a writing, a walking and a judging call on lists that all three must refuse.
+    fn by_all(&mut self, random: &mut Random, lists: &Lists, room: usize) -> Result<(), String> {
         self.write_lists(random, lists, room)?;
-        self.walk_lists(random, lists, 1, room)
+        self.walk_lists(random, lists, 1, room)?;
+        self.judge_lists(random, lists, room)
     }
 }
 

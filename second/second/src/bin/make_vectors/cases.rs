@@ -1,10 +1,10 @@
 //! The cases of the vectors: each rule and edge by itself, then many at once.
 //!
 //! Where a case is made for one rule, the answer is stated beside it as the
-//! scope document gives it, and the program stops if the reader or the writer
-//! says otherwise.
+//! scope document gives it, and the program stops if `second` says otherwise.
 
 mod faults;
+mod pairing;
 mod several;
 mod sound;
 mod walking;
@@ -53,6 +53,7 @@ impl Cases {
         cases.no_cards();
         cases.writing();
         cases.walking();
+        cases.pairing();
         cases.record
     }
 

@@ -1,5 +1,6 @@
 //! The two files of the vectors as they grow, and the words of each answer.
 
+mod pairing;
 mod walking;
 mod writing;
 
@@ -9,8 +10,10 @@ use second::lists::{Lists, LONGEST_LIST};
 use second::profile::Profile;
 use second::reader::{self, Head};
 use second::refusal::Refusal;
+use second::verdict::Walked;
 
-pub use walking::{walk, WalkOutcome, MOST_PLACEMENTS};
+pub use pairing::pairs;
+pub use walking::{walk, MOST_PLACEMENTS};
 pub use writing::{BYTE_BEFORE, LONGEST_ROOM};
 
 /// The most bytes that a card of the vectors may have.
@@ -21,7 +24,7 @@ pub const WORD_BEFORE: u32 = 305_419_896;
 const PLACE_BEFORE: u16 = 4660;
 
 /// The names of the operations, in the order of their counts.
-const OPERATIONS: [&str; 9] = [
+const OPERATIONS: [&str; 10] = [
     "admit",
     "entry",
     "step",
@@ -31,7 +34,11 @@ const OPERATIONS: [&str; 9] = [
     "write",
     "again",
     "walk",
+    "pairs",
 ];
+
+/// The answer to a call that looks for builds, and the whole output after it.
+pub type Outcome = (Result<Walked, Refusal>, Vec<u32>);
 
 /// How often an operation was recorded.
 #[derive(Clone, Copy, Default)]

@@ -11,10 +11,12 @@ mod small;
 mod tables;
 
 use second::lists::Lists;
-use second::walk::{Verdict, Walked};
+use second::verdict::{Verdict, Walked};
+
+pub(super) use orders::ladder_of_lists;
 
 use super::Cases;
-use crate::record::{walk, WalkOutcome, WORD_BEFORE};
+use crate::record::{walk, Outcome, WORD_BEFORE};
 
 impl Cases {
     /// All cases of the walk.
@@ -37,7 +39,7 @@ impl Cases {
     }
 
     /// Records a walk with some room that is enough, and gives the outcome.
-    fn walked_somewhere(&mut self, lists: &Lists, budget: u32) -> WalkOutcome {
+    fn walked_somewhere(&mut self, lists: &Lists, budget: u32) -> Outcome {
         let m = lists.words.len();
         let more = m + self.random.between(2, 9);
         let room = self.random.pick(&[m, m, m + 1, more]);
@@ -99,7 +101,7 @@ impl Cases {
 }
 
 /// Says whether every slot is as it was before the call.
-fn is_untouched(out: &[u32]) -> bool {
+pub(super) fn is_untouched(out: &[u32]) -> bool {
     out.iter().all(|&word| word == WORD_BEFORE)
 }
 

@@ -1,20 +1,16 @@
 //! The records of the walk over span lists.
 
 use second::lists::{Lists, LONGEST_LIST};
-use second::refusal::Refusal;
-use second::walk::{Verdict, Walked};
+use second::verdict::{Verdict, Walked};
 
-use super::{hash, refusal_words, Record, WORD_BEFORE};
+use super::{hash, refusal_words, Outcome, Record, WORD_BEFORE};
 
 /// The most placements that a record may walk.
 pub const MOST_PLACEMENTS: u32 = 100_000;
 
-/// The answer to a call of the walk, and the whole output after it.
-pub type WalkOutcome = (Result<Walked, Refusal>, Vec<u32>);
-
 impl Record {
     /// Records a walk over the lists into an output of this room, and gives the outcome.
-    pub fn walk(&mut self, lists: &Lists, budget: u32, room: usize) -> WalkOutcome {
+    pub fn walk(&mut self, lists: &Lists, budget: u32, room: usize) -> Outcome {
         let lengths = [lists.words.len(), lists.ones.len(), lists.twos.len(), room];
         assert!(lengths.iter().all(|&n| n <= usize::from(LONGEST_LIST)));
         self.stdin.push(b'S');
@@ -26,14 +22,18 @@ impl Record {
         self.stdin.extend_from_slice(&budget.to_le_bytes());
         self.put_lists(lists);
         let outcome = walk(lists, budget, room);
-        let (answer, out) = &outcome;
+        self.outcome_line(8, &outcome);
+        outcome
+    }
+
+    /// Puts the line of a call that looks for builds.
+    pub(super) fn outcome_line(&mut self, operation: usize, (answer, out): &Outcome) {
         let words = match answer {
             Ok(walked) => self.walked_words(*walked),
             Err(refusal) => refusal_words(*refusal),
         };
         let hash = hash(out.iter().map(|&word| u64::from(word)));
-        self.line(8, &format!("{words} {hash}"), answer.is_err());
-        outcome
+        self.line(operation, &format!("{words} {hash}"), answer.is_err());
     }
 
     /// The verdict and the placements, which are also added to all that were walked.
@@ -55,7 +55,7 @@ impl Record {
 }
 
 /// What comes of a walk over the lists into an output of this room.
-pub fn walk(lists: &Lists, budget: u32, room: usize) -> WalkOutcome {
+pub fn walk(lists: &Lists, budget: u32, room: usize) -> Outcome {
     let mut out = vec![WORD_BEFORE; room];
     let answer = lists.walk(budget, &mut out);
     (answer, out)

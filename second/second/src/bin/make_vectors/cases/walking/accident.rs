@@ -4,7 +4,7 @@ use second::entry::Stored;
 use second::lists::Lists;
 use second::numbers::SPAN;
 use second::spans::{shuffle, words_in};
-use second::walk::{Verdict, Walked};
+use second::verdict::{Verdict, Walked};
 
 use crate::cases::Cases;
 use crate::record::walk;

@@ -2,7 +2,7 @@
 
 use second::lists::Lists;
 use second::spans::{around, sequence, shuffle, widest, with_build, words_in};
-use second::walk::{Verdict, Walked};
+use second::verdict::{Verdict, Walked};
 
 use crate::cases::Cases;
 

@@ -2,7 +2,7 @@
 
 use second::lists::Lists;
 use second::spans::{misread, sequence, widest, words_in};
-use second::walk::Verdict;
+use second::verdict::Verdict;
 
 use crate::cases::Cases;
 use crate::record::{walk, MOST_PLACEMENTS};

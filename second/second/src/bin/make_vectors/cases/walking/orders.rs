@@ -14,7 +14,7 @@ const MOST: u32 = 1000;
 impl Cases {
     /// Pairs and triples from a ladder of faults.
     pub(super) fn walk_orders(&mut self) {
-        let ladder = walk_ladder();
+        let ladder = ladder_of_lists();
         for low in 0..ladder.len() {
             for high in low..ladder.len() {
                 self.walk_faults(&ladder, vec![low, high]);
@@ -65,8 +65,8 @@ impl Cases {
     }
 }
 
-/// The writer's ladder without the kind, and with the room of the walk: m = 65 words.
-fn walk_ladder() -> Vec<Fault> {
+/// The writer's ladder without the kind, and with the room of a build: m = 65 words.
+pub(in crate::cases) fn ladder_of_lists() -> Vec<Fault> {
     let mut ladder = ladder();
     ladder.retain(|&((number, _), _)| number != 5 && number != 12);
     ladder.push(((12, 0), |_, room| *room = 64));

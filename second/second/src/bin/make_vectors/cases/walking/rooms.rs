@@ -4,7 +4,7 @@ use second::entry::Stored;
 use second::lists::{Lists, LONGEST_LIST};
 use second::numbers::SPAN;
 use second::spans::with_build;
-use second::walk::Verdict;
+use second::verdict::Verdict;
 
 use crate::cases::Cases;
 use crate::record::walk;

@@ -1,7 +1,7 @@
 //! Small span cards, most with many equal words.
 
 use second::spans::{perhaps_without, sequence, widest, with_build, words_in};
-use second::walk::Verdict;
+use second::verdict::Verdict;
 
 use crate::cases::Cases;
 

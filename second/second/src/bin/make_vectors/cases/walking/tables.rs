@@ -2,7 +2,7 @@
 
 use second::lists::Lists;
 use second::profile::Kind;
-use second::walk::{Verdict, Walked};
+use second::verdict::{Verdict, Walked};
 
 use crate::cases::sound::small_tables;
 use crate::cases::Cases;

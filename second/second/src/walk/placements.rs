@@ -1,47 +1,8 @@
-//! Small span lists by other ways than the walk's, for its tests.
+//! The placements of span lists in another way than the walk's, for its tests.
 
-use std::collections::BTreeSet;
-
-use super::Verdict;
 use crate::entry::Stored;
 use crate::lists::Lists;
-
-/// All builds, each as its words: every order of the entries is tried, by what a build is alone.
-pub fn builds(lists: &Lists) -> BTreeSet<Vec<u32>> {
-    let mut builds = BTreeSet::new();
-    let mut order: Vec<usize> = (0..lists.words.len()).collect();
-    each_order(&mut order, 0, &mut |order| {
-        let row: Vec<Stored> = order.iter().map(|&i| lists.get(i)).collect();
-        if is_arrangement(lists.l, &row) {
-            builds.insert(row.iter().map(|entry| entry.word).collect());
-        }
-    });
-    builds
-}
-
-/// Looks at every order of the indices from this one on.
-fn each_order(order: &mut [usize], from: usize, look: &mut dyn FnMut(&[usize])) {
-    if from == order.len() {
-        look(order);
-    }
-    for i in from..order.len() {
-        order.swap(from, i);
-        each_order(order, from + 1, look);
-        order.swap(from, i);
-    }
-}
-
-/// Says whether the entries may stand at the places from 0 on, in this order.
-fn is_arrangement(l: usize, row: &[Stored]) -> bool {
-    let mut places = row.iter().zip(0u16..);
-    let letters = |word: u32| (0..l).rev().map(move |k| word >> (2 * k) & 3);
-    let mut pairs = row.windows(2);
-    places.all(|(entry, place)| entry.one <= place && place <= entry.two)
-        && pairs.all(|pair| {
-            let tail = letters(pair[0].word).skip(1);
-            tail.eq(letters(pair[1].word).take(l - 1))
-        })
-}
+use crate::verdict::Verdict;
 
 /// The placements of the whole walk in turn, each saying whether it completes a build.
 ///
