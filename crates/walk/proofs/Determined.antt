@@ -2,24 +2,18 @@
 -- other lent lists are tables, of which nothing is promised. `Post` is the contract as it is read from the source. Assumes nothing.
 use mathlib.Core.Path.{_≡_, refl, sym, ap, _∙_}
 use mathlib.Core.List.{List, []}
-use Prim.Native.Nat.{ℕ, _^_, _<_}
+use Prim.Native.Nat.{ℕ}
 use contract.Lifetimes.{Lfts}
 use denote.Ref.{now}
 use denote.Triple.Clauses.{AtExit}
 use borrow.Fn.Kinds.{Dens, resT, endedOf}
 use lib.ListN.{length, take}
 use Rattle.entries.specs.declared.Slot.{Slot}
-use Rattle.entries.specs.declared.Entry.{Entry}
-use Rattle.entries.specs.Entry.{entryOf}
 use Rattle.entries.specs.Fault.{span}
-use Rattle.sequence.specs.Lists.{In}
 use Rattle.sequence.specs.Build.{spell}
 use Rattle.sequence.specs.Verdict.{sole, several, noBuild, Outcome, settled, unsettled}
-use Rattle.sequence.proofs.ListLaws.{in-map}
-use Rattle.sequence.proofs.BuildLaws.{words-length, arrangement-chained}
-use Rattle.sequence.proofs.SpellingLaws.{Chained, spell-one}
-use Rattle.spans.specs.Settling.{Entered, spanEntries, Worded}
-use Rattle.spans.proofs.Builds.{same-word}
+use Rattle.sequence.proofs.BuildLaws.{entries-fit, worded-one}
+use Rattle.spans.specs.Settling.{Entered}
 use Rattle.spans.proofs.Meant.{means-one}
 use Rattle.walk.specs.declared.Walked.{Walked}
 use Rattle.walk.specs.declared.Walked.the-variants.{Sole, Several, None, Unsettled}
@@ -27,20 +21,6 @@ use Rattle.walk.specs.Walked.{saysWalked, GivesBuild, Walks}
 use Rattle.walk.proofs.WholeLaws.{entered}
 use Rattle.walk.proofs.walk.Kinds as walk-kinds
 use Rattle.walk.proofs.walk.Reads as walk-reads
-
--- ---- the words of an arrangement are those that it spells
-
-module _ {l : ℕ} {es : List Slot} (admitted : Entered l es) where
-  entry-fits : (e : Entry) → In e (spanEntries es) → e .word < 4 ^ l
-  entry-fits e h = let u = in-map (entryOf span) es h in rw (u .2) (rw (same-word (u .0)) (admitted .fits (u .0) (u .1)))
-
-  worded-chained : {ws : List ℕ} → Worded l es ws → Chained l ws
-  worded-chained w = rw (w .in-order) (arrangement-chained entry-fits (w .arrangement))
-
-  pub worded-one : {ws vs : List ℕ} → Worded l es ws → Worded l es vs → spell l ws ≡ spell l vs → ws ≡ vs
-  worded-one w v =
-      spell-one (worded-chained w) (worded-chained v)
-      (ap length (w .in-order) ∙ words-length (w .arrangement) ∙ sym (words-length (v .arrangement)) ∙ sym (ap length (v .in-order)))
 
 -- ---- the enum, had back from what it says
 
@@ -83,7 +63,7 @@ module _ {l budget : ℕ} {es : List Slot} {r r′ : Walked} {ws vs : List ℕ} 
   pub words-one : GivesBuild r → ws ≡ vs
   words-one g =
       let g′ : GivesBuild r′ = rw walks-one at g in
-      worded-one admitted (p .worded g) (q .worded g′)
+      worded-one (entries-fit l span es (admitted .fits)) (p .worded g) (q .worded g′)
       (sym (spelled-in l ws r g) ∙ ap spelledIn same ∙ spelled-in l vs r′ g′)
 
 pub walk-one : (κs : Lfts 10) (a : Dens κs walk-kinds.ps) (r r′ : resT walk-kinds.r κs .Denot)

@@ -14,9 +14,10 @@ use Rattle.entries.specs.declared.Slot.{Slot}
 use Rattle.entries.specs.Slot.{slotFrom}
 use Rattle.entries.proofs.SlotLaws.{slot-from}
 use Rattle.sequence.specs.Lists.{keep, numbers}
+use Rattle.sequence.specs.Build.{Worded}
 use Rattle.sequence.proofs.ListLaws.{in-map}
 use Rattle.spans.specs.Walk.{walk, walked}
-use Rattle.spans.specs.Settling.{Entered, Means, Worded}
+use Rattle.spans.specs.Settling.{Entered, spanEntries, Means}
 use Rattle.spans.specs.Run.{Run, searching, run, comeTo}
 use Rattle.spans.proofs.Meant.{outcome-means}
 use Rattle.spans.proofs.Indices.{numbers-in, length-numbers}
@@ -135,7 +136,8 @@ module _ {l : ℕ} {words ones twos starts slots marks : List ℕ} (card : Spans
     pub whole-walk : Walks l es budget (walkedAt budget placed′ state′) kept′
     whole-walk = go shown (rw (← run-answers l es budget) at (outcome-means (entered card) budget)) (run-worded l es budget)
       where
-        go : {n s : ℕ} {ws : List ℕ} {r : Run} → Shows [] n s ws r → Means l es budget (comeTo l budget r) → Keeps (Worded l es) r
+        go : {n s : ℕ} {ws : List ℕ} {r : Run} → Shows [] n s ws r → Means l es budget (comeTo l budget r)
+            → Keeps (Worded l (spanEntries es)) r
             → Walks l es budget (walkedAt budget n s) ws
         go (none-yet e) m k = record { means = m; worded = λ none-is. absurd none-is }
         go one-build m (keeps-one w) = record { means = m; worded = λ some-is. w }

@@ -11,9 +11,9 @@ use lib.ListN.{length}
 use Rattle.answers.specs.Row.{row}
 use Rattle.entries.specs.declared.Slot.{Slot}
 use Rattle.entries.specs.Slot.{slotFrom}
-use Rattle.sequence.specs.Build.{spell}
+use Rattle.sequence.specs.Build.{spell, Worded}
 use Rattle.sequence.specs.Verdict.{sole, several, noBuild, Outcome, settled, unsettled}
-use Rattle.spans.specs.Settling.{Means, Worded}
+use Rattle.spans.specs.Settling.{spanEntries, Means}
 use Rattle.walk.specs.declared.Walked.{Walked}
 use Rattle.walk.specs.declared.Walked.the-variants.{Sole, Several, None, Unsettled}
 
@@ -39,4 +39,4 @@ GivesBuild (Unsettled n) = ⊥
 
 pub record Walks (l : ℕ) (es : List Slot) (budget : ℕ) (r : Walked) (ws : List ℕ) : Type 0 where
   pub means : Means l es budget (saysWalked l ws r)
-  pub worded : GivesBuild r → Worded l es ws
+  pub worded : GivesBuild r → Worded l (spanEntries es) ws
