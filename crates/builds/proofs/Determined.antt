@@ -15,7 +15,7 @@ use Rattle.answers.proofs.Laws.{first-both}
 use Rattle.entries.specs.Fault.{span}
 use Rattle.layout.specs.Bounds.{mostEntries}
 use Rattle.lists.specs.Lists.{listsTests}
-use Rattle.lists.proofs.SpanLaws.{lists-span}
+use Rattle.lists.proofs.KindLaws.{lists-span}
 use Rattle.spans.specs.Settling.{Entered}
 use Rattle.walk.specs.declared.Walked.{Walked}
 use Rattle.walk.specs.declared.Walked.the-variants.{Sole, Several, None, Unsettled}

@@ -14,7 +14,7 @@ use Rattle.answers.proofs.Laws.{first-holds, first-refused, first-last, first-f
 use Rattle.entries.specs.Fault.{span}
 use Rattle.layout.specs.Bounds.{mostEntries}
 use Rattle.lists.specs.Lists.{listsTests}
-use Rattle.lists.proofs.SpanLaws.{SpanLists}
+use Rattle.lists.proofs.KindLaws.{SpanLists}
 use Rattle.tables.specs.Spans.{Spans}
 use Rattle.tables.proofs.PartLaws.{Filling, filling-all}
 use Rattle.walk.specs.declared.Walked.{Walked}
@@ -34,7 +34,7 @@ span-card s = record {
   ones-too = s .as-ones;
   twos-too = s .as-twos;
   fits = s .word-fits;
-  holds = s .span-fits;
+  holds = s .places-fit;
 }
 
 -- ---- the words that are given

@@ -8,7 +8,7 @@ use Rattle.answers.proofs.Laws.{told-holds, told-refused}
 use Rattle.entries.specs.Fault.{span}
 use Rattle.layout.specs.Bounds.{mostEntries}
 use Rattle.lists.specs.Lists.{listsTests}
-use Rattle.lists.proofs.SpanLaws.{lists-span}
+use Rattle.lists.proofs.KindLaws.{lists-span}
 use Rattle.builds.proofs.WalkingLaws.{span-card, lists-refused, no-room, walk-answered}
 use Rattle.builds.proofs.walk_lists.Statement.{statement}
 use Rattle.builds.proofs.walk_lists.Tie as tie
