@@ -5,7 +5,7 @@ use mathlib.Core.List.{List, [], _∷_, _++_, map}
 use mathlib.Core.Option.{none}
 use Prim.Native.Nat.{ℕ, zero, suc, _+_, _-_, _^_, _≤_, _<_}
 use native.Mathlib.Omega.{arith}
-use lib.ListN.{length, getD, take, length-map}
+use lib.ListN.{length, getD, take}
 use lib.Seq.{getD-take, length-take-le}
 use borrow.Author.Tests.{eq-eqb}
 use Rattle.answers.specs.Row.{row}
@@ -15,12 +15,11 @@ use Rattle.entries.specs.Slot.{slotFrom}
 use Rattle.entries.proofs.SlotLaws.{slot-from}
 use Rattle.sequence.specs.Lists.{keep, numbers}
 use Rattle.sequence.specs.Build.{Worded}
-use Rattle.sequence.proofs.ListLaws.{in-map}
+use Rattle.sequence.proofs.ListLaws.{in-row}
 use Rattle.spans.specs.Walk.{walk, walked}
 use Rattle.spans.specs.Settling.{Entered, spanEntries, Means}
 use Rattle.spans.specs.Run.{Run, searching, run, comeTo}
 use Rattle.spans.proofs.Meant.{outcome-means}
-use Rattle.spans.proofs.Indices.{numbers-in, length-numbers}
 use Rattle.spans.proofs.Runs.{Keeps, keeps-one, keeps-two, run-answers, run-worded}
 use Rattle.tables.specs.Spans.{Spans}
 use Rattle.tables.specs.Prepared.{Prepared}
@@ -65,18 +64,11 @@ left-all words ones twos {marks} u e =
 
 -- lists that the entry rules admit are entries that they admit
 pub entered : {l : ℕ} {words ones twos : List ℕ} → Spans l words ones twos → Entered l (entriesIn words ones twos)
-entered {l} {words} {ones} {twos} card = rw (← numbers-row words ones twos 0 (length words)) record {
-  some-entry = omega (
-    arith,
-    card .some-entry,
-    length-map (numbers 0 (length words)) (spanAt words ones twos),
-    length-numbers 0
-        (length words),
-  );
-  fits = λ e h. let u = in-map (spanAt words ones twos) (numbers 0 (length words)) h in
-      rw (u .2) (card .fits (u .0) (omega (arith, numbers-in 0 (length words) (u .0) (u .1))));
-  spans = λ e h. let u = in-map (spanAt words ones twos) (numbers 0 (length words)) h in
-      rw (u .2) (spans-rise card (u .0) (omega (arith, numbers-in 0 (length words) (u .0) (u .1))));
+unfolding slotFrom
+entered {l} {words} {ones} {twos} card = record {
+  some-entry = omega (arith, card .some-entry, length-row (slotFrom words ones twos) 0 (length words));
+  fits = λ e h. let u = in-row (slotFrom words ones twos) 0 (length words) h in rw (u .2) (card .fits (u .0) (omega (arith, u .1)));
+  spans = λ e h. let u = in-row (slotFrom words ones twos) 0 (length words) h in rw (u .2) (spans-rise card (u .0) (omega (arith, u .1)));
 }
 
 map-none : (reached : List (List ℕ)) → map (λ ws. [] ++ ws) reached ≡ reached
