@@ -4,8 +4,9 @@ use mathlib.Core.List.{List}
 use Prim.Native.Nat.{ℕ, _≤_}
 use lib.ListN.{length}
 use Rattle.entries.specs.declared.Slot.{Slot}
+use Rattle.entries.specs.Fault.{span}
 use Rattle.sequence.specs.Lists.{Paired}
-use Rattle.sequence.specs.Verdict.{Widens}
+use Rattle.sequence.specs.Verdict.{Outcome, Widens}
 use Rattle.spans.specs.Settling.{Entered, spanEntries, outcome, Means, NoLaterIf, Narrowed}
 use Rattle.spans.proofs.Meant.{outcome-means, means-one}
 use Rattle.spans.proofs.Compare.{means-later, means-narrowed, means-larger}
@@ -14,41 +15,42 @@ use Rattle.walk.specs.declared.Walked.the-variants.{Sole, Several, None, Unsett
 use Rattle.walk.specs.Walked.{entriesIn, saysWalked, Walks}
 use Rattle.builds.specs.declared.WalkAnswer.{WalkAnswer}
 use Rattle.builds.specs.declared.WalkAnswer.the-variants as is
-use Rattle.builds.specs.Walking.{wordsAfter, Answered, walked}
-use Rattle.builds.proofs.Determined.{admitted, answered-one}
+use Rattle.builds.specs.Answering.{wordsAfter, Answered, walked}
+use Rattle.builds.proofs.WalkingLaws.{walk-admitted}
+use Rattle.builds.proofs.Determined.{answered-one}
 
--- an answer that is no refusal, with the words that are given with it
-pub record Said (l : ℕ) (words ones twos : List ℕ) (budget : ℕ) (before : List ℕ) (r : Walked) (after : List ℕ) : Type 0 where
+-- an answer that is no refusal, with the words that are given with it: its entries are admitted, and it means what it says
+pub record Said (l : ℕ) (Admitted : Type 0) (True : Outcome → Type 0) (before : List ℕ) (r : Walked) (after : List ℕ) : Type 0 where
   pub found : List ℕ
   pub output : after ≡ wordsAfter r found before
-  pub entries : Entered l (entriesIn words ones twos)
-  pub means : Means l (entriesIn words ones twos) budget (saysWalked l found r)
+  pub entries : Admitted
+  pub means : True (saysWalked l found r)
 
-pub said : {l budget : ℕ} {words ones twos before after : List ℕ} {r : Walked}
-    → Answered l words ones twos budget before (is.Walked r) after
-    → Said l words ones twos budget before r after
-said {l} {words} {ones} {twos} {before} (walked {ws} e p a) =
-    record { found = ws; output = a; entries = admitted l (length before) words ones twos e; means = p .means }
+-- ---- span lists
 
--- ---- demand 2: the answer is what the walk of 01 comes to
+abbrev pub WalkSaid : ℕ → List Slot → ℕ → List ℕ → Walked → List ℕ → Type 0
+WalkSaid l es budget before r after = Said l (Entered l es) (Means l es budget) before r after
 
-pub said-outcome : {l budget : ℕ} {words ones twos before after : List ℕ} {r : Walked} (p : Said l words ones twos budget before r after)
-    → saysWalked l (p .found) r ≡ outcome l (entriesIn words ones twos) budget
+pub walk-said : {l budget : ℕ} {words ones twos before after : List ℕ} {r : Walked}
+    → Answered span l words ones twos (λ es. Means l es budget) before (is.Walked r) after
+    → WalkSaid l (entriesIn words ones twos) budget before r after
+walk-said {l} {words} {ones} {twos} {before} (walked {ws} e p a) =
+    record { found = ws; output = a; entries = walk-admitted l (length before) words ones twos e; means = p .means }
+
+-- demand 2: the answer is what the walk of 01 comes to
+pub said-outcome : {l budget : ℕ} {es : List Slot} {before after : List ℕ} {r : Walked} (p : WalkSaid l es budget before r after)
+    → saysWalked l (p .found) r ≡ outcome l es budget
 said-outcome {budget} p = means-one (p .means) (outcome-means (p .entries) budget)
 
--- ---- demand 3
-
-module _ {l b : ℕ} {words ones twos words′ ones′ twos′ before before′ after after′ : List ℕ} {r r′ : Walked}
-    (pairs : Paired Widens (spanEntries (entriesIn words ones twos)) (spanEntries (entriesIn words′ ones′ twos′)))
-    (p : Said l words ones twos b before r after) where
+-- demand 3
+module _ {l b : ℕ} {es es′ : List Slot} {before before′ after after′ : List ℕ} {r r′ : Walked}
+    (pairs : Paired Widens (spanEntries es) (spanEntries es′)) (p : WalkSaid l es b before r after) where
   -- "a build on the first means one on the second, alphabetically no later; several stays several"
-  pub said-no-later : {c : ℕ} (q : Said l words′ ones′ twos′ c before′ r′ after′)
-      → NoLaterIf (saysWalked l (p .found) r) (saysWalked l (q .found) r′)
+  pub said-no-later : {c : ℕ} (q : WalkSaid l es′ c before′ r′ after′) → NoLaterIf (saysWalked l (p .found) r) (saysWalked l (q .found) r′)
   said-no-later q = means-later (p .entries) (q .entries) pairs (p .means) (q .means)
 
   -- "it settles the first in no more placements, as none or that same sole sequence"
-  pub said-narrowed : (q : Said l words′ ones′ twos′ b before′ r′ after′)
-      → Narrowed (saysWalked l (p .found) r) (saysWalked l (q .found) r′)
+  pub said-narrowed : (q : WalkSaid l es′ b before′ r′ after′) → Narrowed (saysWalked l (p .found) r) (saysWalked l (q .found) r′)
   said-narrowed q = means-narrowed (p .entries) (q .entries) pairs (p .means) (q .means)
 
 -- the walk has settled
@@ -66,7 +68,7 @@ walks-larger (Unsettled n) h s w = absurd s
 
 -- "On one card, a settled answer and its placements stay the same under every larger budget.": and so does the output
 pub larger-budget-same : {l b c : ℕ} {words ones twos before after after′ : List ℕ} {r : Walked} {r′ : WalkAnswer} → b ≤ c → Settled r
-    → Answered l words ones twos b before (is.Walked r) after
-    → Answered l words ones twos c before r′ after′
+    → Answered span l words ones twos (λ es. Means l es b) before (is.Walked r) after
+    → Answered span l words ones twos (λ es. Means l es c) before r′ after′
     → (is.Walked r ≡ r′) × (after ≡ after′)
-larger-budget-same {r} h s (walked e p a) q = answered-one (walked e (walks-larger r h s p) a) q
+larger-budget-same {r} h s (walked e p a) q = answered-one (λ es o o′. means-one) (walked e (walks-larger r h s p) a) q

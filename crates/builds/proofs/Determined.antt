@@ -9,32 +9,22 @@ use denote.Ref.{now}
 use denote.Triple.Clauses.{AtExit}
 use borrow.Fn.Kinds.{Dens, resT, endedOf}
 use lib.ListN.{length}
-use Rattle.answers.specs.Answer.{first, Answer, given, refused, Sound, sound}
+use Rattle.answers.specs.Answer.{Answer, given, refused, Sound, sound}
 use Rattle.answers.specs.declared.Refusal.{Refusal}
-use Rattle.answers.proofs.Laws.{first-both}
-use Rattle.entries.specs.Fault.{span}
-use Rattle.layout.specs.Bounds.{mostEntries}
-use Rattle.lists.specs.Lists.{listsTests}
-use Rattle.lists.proofs.SpanLaws.{lists-span}
-use Rattle.spans.specs.Settling.{Entered}
+use Rattle.entries.specs.declared.Slot.{Slot}
+use Rattle.sequence.specs.Verdict.{Outcome}
+use Rattle.sequence.proofs.BuildLaws.{entries-fit}
+use Rattle.spans.proofs.Meant.{means-one}
 use Rattle.walk.specs.declared.Walked.{Walked}
 use Rattle.walk.specs.declared.Walked.the-variants.{Sole, Several, None, Unsettled}
 use Rattle.walk.specs.Walked.{entriesIn, GivesBuild}
-use Rattle.walk.proofs.WholeLaws.{entered}
-use Rattle.walk.proofs.Determined.{walks-one, words-one}
+use Rattle.walk.proofs.Determined.{Single, right-one, words-one}
 use Rattle.builds.specs.declared.WalkAnswer.{WalkAnswer}
 use Rattle.builds.specs.declared.WalkAnswer.the-variants as is
-use Rattle.builds.specs.Walking.{walkTests, wordsAfter, Answered, walked, refuses}
-use Rattle.builds.proofs.WalkingLaws.{span-card}
+use Rattle.builds.specs.Answering.{wordsAfter, Answered, walked, refuses}
+use Rattle.builds.proofs.AnsweringLaws.{slots-fit}
 use Rattle.builds.proofs.walk_lists.Kinds as walk-lists
 use Rattle.builds.proofs.walk_lists.Reads as walk-lists-reads
-
--- entries whose tests hold are admitted
-pub admitted : (l room : ℕ) (words ones twos : List ℕ) → first (walkTests l words ones twos room) sound ≡ given sound
-    → Entered l (entriesIn words ones twos)
-unfolding walkTests
-admitted l room words ones twos e =
-    entered (span-card (lists-span (first-both _ sound (listsTests mostEntries span l words ones twos) sound e .0)))
 
 -- the output after two answers with the same words, where words are given, is one
 after-one : (r : Walked) {ws vs : List ℕ} (before : List ℕ) → (GivesBuild r → ws ≡ vs) → wordsAfter r ws before ≡ wordsAfter r vs before
@@ -54,15 +44,18 @@ refused-one : {t : Answer Sound} {r r′ : Refusal} → t ≡ refused (r .number
 unfolding refusalBack
 refused-one e f = ap refusalBack (sym e ∙ f)
 
-module _ {l budget : ℕ} {words ones twos before : List ℕ} where
-  pub answered-one : {r r′ : WalkAnswer} {after after′ : List ℕ} → Answered l words ones twos budget before r after
-      → Answered l words ones twos budget before r′ after′
+-- two answers are one, where one outcome at most is true
+module _ {kind l : ℕ} {words ones twos before : List ℕ} {True : List Slot → Outcome → Type 0}
+    (single : (es : List Slot) → Single (True es)) where
+  pub answered-one : {r r′ : WalkAnswer} {after after′ : List ℕ} → Answered kind l words ones twos True before r after
+      → Answered kind l words ones twos True before r′ after′
       → (r ≡ r′) × (after ≡ after′)
   answered-one (walked {r} {ws} e p a) (walked {ws = vs} f q b) =
-      let entries = admitted l (length before) words ones twos e in
-      let same = walks-one entries p q in (
+      let es = entriesIn words ones twos in
+      let same = right-one (single es) p q in
+      let fits = entries-fit l kind es (slots-fit kind l words ones twos (length before) e) in (
         ap is.Walked same,
-        a ∙ after-one r before (words-one entries p q) ∙ ap (λ (x : Walked). wordsAfter x vs before) same ∙ sym b,
+        a ∙ after-one r before (words-one (single es) p q fits) ∙ ap (λ (x : Walked). wordsAfter x vs before) same ∙ sym b,
       )
   answered-one (walked e p a) (refuses f b) = absurd (given-or-refused e f)
   answered-one (refuses e a) (walked f q b) = absurd (given-or-refused f e)
@@ -73,4 +66,4 @@ pub walk-lists-one : (κs : Lfts 4) (a : Dens κs walk-lists.ps) (r r′ : resT 
     → walk-lists-reads.Post κs a r e
     → walk-lists-reads.Post κs a r′ e′
     → (r ≡ r′) × (now (e .1 .1 .1 .1 .1 .0) ≡ now (e′ .1 .1 .1 .1 .1 .0))
-walk-lists-one κs a r r′ e e′ p q = answered-one p q
+walk-lists-one κs a r r′ e e′ p q = answered-one (λ es o o′. means-one) p q

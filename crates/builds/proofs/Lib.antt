@@ -1,4 +1,6 @@
--- `WalkingLaws` has the laws of walking lists, `Determined` that its contract has one outcome, `Demands` what the demands say of it.
+-- `AnsweringLaws` has the laws of building over lists, `WalkingLaws` those of walking them, `Determined` that the contract has one outcome,
+-- `Demands` what the demands say of it.
+pub mod AnsweringLaws
 pub mod WalkingLaws
 pub mod Determined
 pub mod Demands

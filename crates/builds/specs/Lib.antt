@@ -1,1 +1,2 @@
-pub mod Walking
+-- `Answering` is what building over lists answers, whichever the kind of the card.
+pub mod Answering

@@ -2,10 +2,11 @@
 ghost use mathlib.Core.Path.{_≡_};
 ghost use Prim.Native.Nat.{_≤_};
 ghost use lib.ListN.{length};
+ghost use Rattle.entries.specs.Fault.{span};
 ghost use Rattle.layout.specs.Bounds.{mostEntries};
+ghost use Rattle.spans.specs.Settling.{Means};
 ghost use Rattle.tables.specs.Spans.{Spans};
-ghost use Rattle.walk.specs.Walked.{entriesIn};
-ghost use Rattle.builds.specs.Walking.{wordsAfter, WalksInto, Answered};
+ghost use Rattle.builds.specs.Answering.{wordsAfter, Answered, Into};
 use answers::Held;
 use answers::Refusal;
 use layout::MOST;
@@ -57,7 +58,16 @@ fn walk_into(
     requires { ⌜ Spans l (now words) (now ones) (now twos) ⌝ }
     requires { ⌜ (length (now words) ≤ mostEntries) × (length (now out) ≡ length (now words)) ⌝ }
     ensures { λ r. ⌜
-        WalksInto l (entriesIn (now (words .entry)) (now (ones .entry)) (now (twos .entry))) budget r (now (out .entry)) (now (out .exit))
+        Into
+        span
+        l
+        (now (words .entry))
+        (now (ones .entry))
+        (now (twos .entry))
+        (λ es. Means l es budget)
+        r
+        (now (out .entry))
+        (now (out .exit))
         ⌝ }
 {
     let m = words.len();
@@ -97,7 +107,16 @@ pub fn walk_lists(
     out: &mut [u32],
 ) -> WalkAnswer
     ensures { λ r. ⌜
-        Answered l (now (words .entry)) (now (ones .entry)) (now (twos .entry)) budget (now (out .entry)) r (now (out .exit))
+        Answered
+        span
+        l
+        (now (words .entry))
+        (now (ones .entry))
+        (now (twos .entry))
+        (λ es. Means l es budget)
+        (now (out .entry))
+        r
+        (now (out .exit))
         ⌝ }
 {
     if let Held::Refused(r) = lists::lists_hold(entries::SPAN, l, words, ones, twos) {

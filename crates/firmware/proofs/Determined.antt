@@ -5,6 +5,7 @@ use contract.Lifetimes.{Lfts}
 use denote.Ref.{now}
 use denote.Triple.Clauses.{AtExit}
 use borrow.Fn.Kinds.{Dens, resT, endedOf}
+use Rattle.spans.proofs.Meant.{means-one}
 use Rattle.builds.proofs.Determined.{answered-one}
 use Rattle.firmware.specs.Flat.{walkAnswer}
 use Rattle.firmware.proofs.belfrymist_admit.Kinds as admit
@@ -57,5 +58,5 @@ write-one κs a r r′ e e′ p q = (p .0 ∙ sym (q .0), p .1 ∙ sym (q .1))
 pub walk-one : (κs : Lfts 4) (a : Dens κs walk.ps) (r r′ : resT walk.r κs .Denot) (e e′ : AtExit (endedOf 4 walk.ps walk.r) κs)
     → walk-reads.Post κs a r e → walk-reads.Post κs a r′ e′ → (r ≡ r′) × (now (e .1 .1 .1 .1 .1 .0) ≡ now (e′ .1 .1 .1 .1 .1 .0))
 walk-one κs a r r′ e e′ p q =
-    let one = answered-one (p .answered) (q .answered) in
+    let one = answered-one (λ es o o′. means-one) (p .answered) (q .answered) in
     (p .told ∙ ap walkAnswer (one .0) ∙ sym (q .told), one .1)

@@ -13,15 +13,16 @@ use Rattle.card.specs.Fetching.{admission, entryFetch, stepping}
 use Rattle.card.proofs.RefusalNumbers.{admission-number, entry-number, step-number}
 use Rattle.writer.specs.Writing.{writing}
 use Rattle.writer.proofs.RefusalNumbers.{writing-number}
-use Rattle.entries.specs.Fault.{span}
+use Rattle.entries.specs.declared.Slot.{Slot}
 use Rattle.layout.specs.Bounds.{mostEntries}
 use Rattle.lists.proofs.Laws.{lists-numbered}
+use Rattle.sequence.specs.Verdict.{Outcome}
 use Rattle.walk.specs.declared.Walked.{Walked}
 use Rattle.walk.specs.declared.Walked.the-variants.{Sole, Several, None, Unsettled}
-use Rattle.builds.specs.Walking.{walkTests, Answered, walked, refuses}
+use Rattle.builds.specs.Answering.{buildTests, Answered, walked, refuses}
 use Rattle.builds.specs.declared.WalkAnswer as walking
 use Rattle.firmware.specs.declared.walking.WalkAnswer.{WalkAnswer}
-use Rattle.firmware.specs.Flat.{admitAnswer, entryAnswer, stepAnswer, heldAnswer, writeAnswer, walkedAnswer, walkAnswer, WalkTold}
+use Rattle.firmware.specs.Flat.{admitAnswer, entryAnswer, stepAnswer, heldAnswer, writeAnswer, walkedAnswer, walkAnswer, Told}
 
 module _ (limit : ℕ) (card : List ℕ) {n p : ℕ} where
   pub admit-tells : admission limit card ≡ refused n p → 0 < admitAnswer (admission limit card) .number
@@ -42,12 +43,12 @@ pub write-tells : (limit kind l : ℕ) (words ones twos : List ℕ) (room : ℕ)
     → 0 < writeAnswer (writing limit kind l words ones twos room) .number
 write-tells limit kind l words ones twos room e = rw e (writing-number limit kind l words ones twos room e)
 
--- ---- the walk, whose contract is a relation: both ways
+-- ---- building over lists, whose contract is a relation: both ways
 
-walk-numbered : (l : ℕ) (words ones twos : List ℕ) (room : ℕ) → Numbered (walkTests l words ones twos room)
-unfolding walkTests
-walk-numbered l words ones twos room =
-    numbered-append (lists-numbered mostEntries span l words ones twos) (also {n = Room} (omega arith) none)
+build-numbered : (kind l : ℕ) (words ones twos : List ℕ) (room : ℕ) → Numbered (buildTests kind l words ones twos room)
+unfolding buildTests
+build-numbered kind l words ones twos room =
+    numbered-append (lists-numbered mostEntries kind l words ones twos) (also {n = Room} (omega arith) none)
 
 walked-zero : (w : Walked) → walkedAnswer w .number ≡ 0
 walked-zero (Sole n) = refl
@@ -55,19 +56,18 @@ walked-zero (Several n) = refl
 walked-zero (None n) = refl
 walked-zero (Unsettled n) = refl
 
-module _ {l budget : ℕ} {words ones twos before after : List ℕ} {result : WalkAnswer} where
-  pub walk-tells : WalkTold l words ones twos budget before result after → {n p : ℕ}
-      → first (walkTests l words ones twos (length before)) sound ≡ refused n p → 0 < result .number
-  walk-tells w e = rw (w .told) (go (w .answered))
+module _ {kind l : ℕ} {words ones twos before after : List ℕ} {True : List Slot → Outcome → Type 0} {result : WalkAnswer}
+    (w : Told (Answered kind l words ones twos True before) result after) where
+  pub build-tells : {n p : ℕ} → first (buildTests kind l words ones twos (length before)) sound ≡ refused n p → 0 < result .number
+  build-tells e = rw (w .told) (go (w .answered))
     where
-      go : {r : walking.WalkAnswer} → Answered l words ones twos budget before r after → 0 < walkAnswer r .number
+      go : {r : walking.WalkAnswer} → Answered kind l words ones twos True before r after → 0 < walkAnswer r .number
       go (walked hold _ _) = let z : _≡_ {A = ℕ} 0 1 = cc in absurd (omega arith)
-      go (refuses fails _) = numbered-refused (walk-numbered l words ones twos (length before)) sound fails
+      go (refuses fails _) = numbered-refused (build-numbered kind l words ones twos (length before)) sound fails
 
-  pub walk-zero : WalkTold l words ones twos budget before result after
-      → first (walkTests l words ones twos (length before)) sound ≡ given sound → result .number ≡ 0
-  walk-zero w e = rw (w .told) (go (w .answered))
+  pub build-zero : first (buildTests kind l words ones twos (length before)) sound ≡ given sound → result .number ≡ 0
+  build-zero e = rw (w .told) (go (w .answered))
     where
-      go : {r : walking.WalkAnswer} → Answered l words ones twos budget before r after → walkAnswer r .number ≡ 0
+      go : {r : walking.WalkAnswer} → Answered kind l words ones twos True before r after → walkAnswer r .number ≡ 0
       go (walked {r = w′} _ _ _) = walked-zero w′
       go (refuses fails _) = let z : _≡_ {A = ℕ} 0 1 = cc in absurd (omega arith)

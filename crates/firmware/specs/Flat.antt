@@ -8,9 +8,10 @@
 --   partAnswer k r     == fetching block k: where in the card it starts, and its bytes
 --   writeAnswer r      == writing: the card's length
 --   walkedAnswer w     == a walk that nothing refused: its verdict and its placements
---   walkAnswer r       == walking lists
---   WalkTold l words ones twos budget before result after
---                      == the struct `result`, and every element of the output afterwards, are those of what walking the lists answers
+--   walkAnswer r       == building over lists
+--   Told Answers result after
+--                      == the struct `result`, and every element of the output afterwards, are those of what building over lists answers,
+--                         which is what `Answers` says
 -- Assumes nothing.
 use mathlib.Core.Path.{_≡_}
 use mathlib.Core.List.{List}
@@ -24,7 +25,6 @@ use Rattle.entries.specs.declared.Places.the-variants.{One, Two, Span}
 use Rattle.card.specs.Fetching.{Next, more, end}
 use Rattle.walk.specs.declared.Walked.{Walked}
 use Rattle.walk.specs.declared.Walked.the-variants.{Sole, Several, None, Unsettled}
-use Rattle.builds.specs.Walking.{Answered}
 use Rattle.builds.specs.declared.WalkAnswer as walking
 use Rattle.builds.specs.declared.WalkAnswer.the-variants as is
 use Rattle.firmware.specs.declared.Shape.{Shape}
@@ -93,7 +93,7 @@ abbrev pub walkAnswer : walking.WalkAnswer → WalkAnswer
 walkAnswer (is.Walked w) = walkedAnswer w
 walkAnswer (is.Refused r) = record { number = r .number; place = r .place; verdict = 0; placements = 0 }
 
-pub record WalkTold (l : ℕ) (words ones twos : List ℕ) (budget : ℕ) (before : List ℕ) (result : WalkAnswer) (after : List ℕ) : Type 0 where
+pub record Told (Answers : walking.WalkAnswer → List ℕ → Type 0) (result : WalkAnswer) (after : List ℕ) : Type 0 where
   pub answer : walking.WalkAnswer
-  pub answered : Answered l words ones twos budget before answer after
+  pub answered : Answers answer after
   pub told : result ≡ walkAnswer answer

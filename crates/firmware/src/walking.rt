@@ -1,6 +1,9 @@
 // The walk over span lists, for C.
 ghost use mathlib.Core.Path.{_≡_};
-ghost use Rattle.firmware.specs.Flat.{settledAnswer, walkedAnswer, WalkTold};
+ghost use Rattle.entries.specs.Fault.{span};
+ghost use Rattle.spans.specs.Settling.{Means};
+ghost use Rattle.builds.specs.Answering.{Answered};
+ghost use Rattle.firmware.specs.Flat.{settledAnswer, walkedAnswer, Told};
 use walk::Walked;
 
 // The verdicts of a walk.
@@ -58,7 +61,10 @@ pub extern "C" fn belfrymist_walk(
     out: &mut [u32],
 ) -> WalkAnswer
     ensures { λ r. ⌜
-        WalkTold l (now (words .entry)) (now (ones .entry)) (now (twos .entry)) budget (now (out .entry)) r (now (out .exit))
+        Told
+        (Answered span l (now (words .entry)) (now (ones .entry)) (now (twos .entry)) (λ es. Means l es budget) (now (out .entry)))
+        r
+        (now (out .exit))
         ⌝ }
 {
     match builds::walk_lists(l, words, ones, twos, budget, out) {

@@ -1,5 +1,5 @@
--- `Laws` has what this crate's proofs and the crates above cite of the lists' tests, `SpanLaws` what lists that hold have where the kind is
--- span; `Determined` says that each contract has one outcome.
+-- `Laws` has what this crate's proofs and the crates above cite of the lists' tests, `KindLaws` what lists that hold have by their kind,
+-- pair or span; `Determined` says that each contract has one outcome.
 pub mod Laws
-pub mod SpanLaws
+pub mod KindLaws
 pub mod Determined

@@ -1,12 +1,13 @@
--- Laws of members, of taking one out of a list, of rising order and of pairing off. Assumes nothing.
+-- Laws of members, of taking one out of a list, of rising order, of pairing off and of lists by their parts. Assumes nothing.
 use mathlib.Core.Path.{_≡_, refl, ap, sym, _∙_, subst}
 use mathlib.Core.List.{List, [], _∷_, _++_, map, flatMap}
 use mathlib.Core.Logic.{_⊎_, inl, inr, ⊎-elim, ⊎-map}
 use mathlib.Core.Bool.{Bool, true, false, cond}
-use Prim.Native.Nat.{suc, _≤_}
+use Prim.Native.Nat.{ℕ, zero, suc, _+_, _≤_, _<_}
 use native.Mathlib.Omega.{arith}
 use lib.ListN.{length}
 use lib.Dec.{T}
+use Rattle.answers.specs.Row.{row}
 use Rattle.sequence.specs.Lists.{In, first, later, Taken, here, there, Paired, nobody, pair, Rising, flat, rises, Choice, choice, choices, keep}
 
 module _ {A : Type 0} where
@@ -192,6 +193,15 @@ module _ {A B : Type 0} where
   rising-flatMap f each between (rises {x = a} {xs = l} up r) =
       rising-append (each a) (rising-flatMap f each between r)
       (λ x y g h. let s = in-flatMap f l h in between a (s .0) x y (up (s .0) (s .1)) g (s .2))
+
+-- ---- a list by its parts
+
+-- a member is one of the parts
+pub in-row : {A : Type 0} (f : ℕ → A) (k n : ℕ) {x : A} → In x (row f k n) → (i : ℕ) × (i < k + n) × (x ≡ f i)
+unfolding row
+in-row f k zero h = absurd (not-in-nil h)
+in-row f k (suc n) first = (k, omega arith, refl)
+in-row f k (suc n) (later h) = let s = in-row f (suc k) n h in (s .0, omega (arith, s .1), s .2)
 
 -- ---- choices
 

@@ -15,13 +15,14 @@ use Rattle.entries.specs.Fault.{span}
 use Rattle.entries.proofs.Allowed.{span-entry}
 use Rattle.sequence.specs.Lists.{In, Reordered, empty, next, Rising}
 use Rattle.sequence.specs.Arrangement.{Standing, nobody, stands, words}
-use Rattle.sequence.specs.Build.{spell, Build}
+use Rattle.sequence.specs.Build.{spell, Build, Worded}
 use Rattle.sequence.specs.Verdict.{Before}
 use Rattle.sequence.proofs.TestLaws.{is-true, true-is, and-both, both-and}
 use Rattle.sequence.proofs.ListLaws.{not-in-nil, in-cons, in-keep, keep-in, rising-keep, length-taken}
 use Rattle.sequence.proofs.ReorderedLaws.{reordered-map, map-reordered, reordered-length}
+use Rattle.sequence.proofs.BuildLaws.{entry-word, worded-build}
 use Rattle.spans.specs.Walk.{walked, builds}
-use Rattle.spans.specs.Settling.{spanEntries, Worded}
+use Rattle.spans.specs.Settling.{spanEntries}
 use Rattle.spans.proofs.Feasible.{Allowed, Feasible, stop, step, feasible-length}
 use Rattle.spans.proofs.Reached.{reached-feasible, feasible-reached, reached-some, walk-rising}
 
@@ -36,16 +37,13 @@ is-allowed s i h =
     let both = and-both (leb (s .one) i) (leb i (s .two)) (true-is _ (rw (span-entry s) at h)) in
     record { begun = leb→le _ _ (both .0); lasts = leb→le _ _ (both .1) }
 
-pub same-word : (s : Slot) → entryOf span s .word ≡ s .word
-same-word s = rw (span-entry s) refl
-
 wordsOf : List Slot → List ℕ
 wordsOf o = map (λ s. s .word) o
 
 same-words : (o : List Slot) → words (spanEntries o) ≡ wordsOf o
 unfolding wordsOf
 same-words [] = refl
-same-words (s ∷ o) = let e = same-word s in let f = same-words o in cc
+same-words (s ∷ o) = let e = entry-word span s in let f = same-words o in cc
 
 length-words : (o : List Slot) → length (wordsOf o) ≡ length o
 unfolding wordsOf
@@ -62,8 +60,8 @@ standing-feasible : (l i : ℕ) (p : Option ℕ) {left o : List Slot} → Reorde
 unfolding wordsOf
 standing-feasible l i p empty s = stop (λ d m. absurd (not-in-nil m))
 standing-feasible l i p (next {e} t r) (stands a f more) =
-    step t refl (is-allowed e i a) (true-is _ (rw (same-word e) at f))
-    (standing-feasible l (suc i) (some (e .word)) r (rw (same-word e) at more))
+    step t refl (is-allowed e i a) (true-is _ (rw (entry-word span e) at f))
+    (standing-feasible l (suc i) (some (e .word)) r (rw (entry-word span e) at more))
 
 feasible-standing : {l i : ℕ} {p : Option ℕ} {left : List Slot} {ws : List ℕ} → Feasible l i p left ws → length ws ≡ length left
     → (o : List Slot) × Reordered left o × Standing l i p (spanEntries o) × (ws ≡ wordsOf o)
@@ -72,7 +70,7 @@ feasible-standing (stop {left = []} h) n = ([], empty, nobody, refl)
 feasible-standing (stop {left = e ∷ left} h) n = absurd (omega arith)
 feasible-standing {l} (step {i} {p} {e = own} {w} t e a f more) n =
     let s = feasible-standing more (omega (arith, length-taken t)) in
-    let same : entryOf span own .word ≡ w = same-word own ∙ e in (
+    let same : entryOf span own .word ≡ w = entry-word span own ∙ e in (
       own ∷ s .0,
       next t (s .1),
       stands {p = p} {e = entryOf span own} {es = spanEntries (s .0)} (allowed-is own i a) (rw same
@@ -81,7 +79,7 @@ feasible-standing {l} (step {i} {p} {e = own} {w} t e a f more) n =
     )
 
 module _ {l : ℕ} {es : List Slot} where
-  pub complete-worded : {ws : List ℕ} → Complete l es ws → Worded l es ws
+  pub complete-worded : {ws : List ℕ} → Complete l es ws → Worded l (spanEntries es) ws
   complete-worded c =
       let s = feasible-standing (c .feasible) (c .all) in
       record {
@@ -90,7 +88,7 @@ module _ {l : ℕ} {es : List Slot} where
         in-order = s .3 ∙ sym (same-words (s .0));
       }
 
-  pub worded-complete : {ws : List ℕ} → Worded l es ws → Complete l es ws
+  pub worded-complete : {ws : List ℕ} → Worded l (spanEntries es) ws → Complete l es ws
   worded-complete w =
       let k = map-reordered (entryOf span) es refl (w .arrangement .each) in
       let stood = standing-feasible l 0 none (k .1) (rw (k .2) at (w .arrangement .standing)) in
@@ -103,8 +101,7 @@ module _ {l : ℕ} {es : List Slot} where
       (words (b .order), w, b .spelled)
 
   pub complete-build : {ws : List ℕ} → Complete l es ws → Build l (spanEntries es) (spell l ws)
-  complete-build c =
-      let w = complete-worded c in record { order = w .order; arrangement = w .arrangement; spelled = ap (spell l) (w .in-order) }
+  complete-build c = worded-build (complete-worded c)
 
 -- ---- the builds of the walk
 

@@ -18,11 +18,12 @@ use Rattle.sequence.proofs.ListLaws.{in-keep, keep-in, rising-shorter}
 use Rattle.sequence.proofs.ReorderedLaws.{map-paired, paired-each}
 use Rattle.sequence.proofs.OrderLaws.{before-irr}
 use Rattle.sequence.proofs.VerdictLaws.{tells-no-later}
+use Rattle.sequence.proofs.BuildLaws.{entry-word}
 use Rattle.sequence.proofs.WiderLaws.{build-wider, paired-length}
 use Rattle.spans.specs.Walk.{walked, builds, upTo, placements}
 use Rattle.spans.specs.Settling.{spanEntries, Entered, Means, settles, goes-on, NoLaterIf, Narrowed}
 use Rattle.spans.proofs.Feasible.{Wider, feasible-wider}
-use Rattle.spans.proofs.Builds.{same-word, allowed-is, is-allowed, Complete, complete-build, builds-sound}
+use Rattle.spans.proofs.Builds.{allowed-is, is-allowed, Complete, complete-build, builds-sound}
 use Rattle.spans.proofs.Builds.{walked-feasible, feasible-walked, walked-some, walked-rising, builds-rising}
 use Rattle.spans.proofs.Chains.{complete-one}
 
@@ -69,7 +70,7 @@ wider-of a b own w =
     let least = is-allowed b (a .one) (w .places (a .one) (allowed-is a (a .one) (record { begun = omega arith; lasts = own }))) in
     let most = is-allowed b (a .two) (w .places (a .two) (allowed-is a (a .two) (record { begun = own; lasts = omega arith }))) in
     record {
-      word = sym (same-word a) ∙ w .word ∙ same-word b;
+      word = sym (entry-word span a) ∙ w .word ∙ entry-word span b;
       begins = λ i h g. omega (arith, least .begun);
       ends = most .lasts;
     }

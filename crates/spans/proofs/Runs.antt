@@ -12,8 +12,9 @@ use borrow.Author.Tests.{leb-true, leb-false, le-leb, lt-leb, eqb-true}
 use Rattle.sequence.specs.Lists.{In, first, later, Rising, keep, numbers}
 use Rattle.entries.specs.declared.Slot.{Slot}
 use Rattle.spans.specs.Walk.{isCandidate, walk, walked, builds, upTo, placements}
+use Rattle.sequence.specs.Build.{Worded}
 use Rattle.sequence.specs.Verdict.{Outcome, settled, unsettled}
-use Rattle.spans.specs.Settling.{Worded, verdictOn, outcome}
+use Rattle.spans.specs.Settling.{spanEntries, verdictOn, outcome}
 use Rattle.spans.proofs.Feasible.{Allowed}
 use Rattle.spans.proofs.Builds.{walked-feasible, complete-worded}
 use Rattle.spans.proofs.Order.{Sooner, firsts}
@@ -178,7 +179,8 @@ run-keeps P m budget (ws ∷ reached) h k =
     run-keeps P m budget reached (λ vs i. h vs (later i)) (reach-keeps P m budget ws (h ws first) k)
 
 -- a run from the start keeps the words of an arrangement
-pub run-worded : (l : ℕ) (es : List Slot) (budget : ℕ) → Keeps (Worded l es) (run (length es) budget (searching 0) (walked l es))
+pub run-worded : (l : ℕ) (es : List Slot) (budget : ℕ)
+    → Keeps (Worded l (spanEntries es)) (run (length es) budget (searching 0) (walked l es))
 run-worded l es budget =
-    run-keeps (Worded l es) (length es) budget (walked l es)
+    run-keeps (Worded l (spanEntries es)) (length es) budget (walked l es)
     (λ ws i e. complete-worded (record { feasible = walked-feasible l es i; all = e })) keeps-none

@@ -2,7 +2,6 @@
 --   spanEntries es           == the entries of a span card, with their allowed places
 --   Entered l es             == entries that the entry rules admit: there is one, each word has l letters, no span ends
 --                               before it begins
---   Worded l es ws           == ws are the words of an arrangement of the entries, in order
 --   verdictOn l bs           == the verdict by the builds bs in their order
 --   outcome l es budget      == what the walk comes to
 --   Means l es budget o      == the outcome o is true, over all builds
@@ -20,7 +19,6 @@ use Rattle.entries.specs.declared.Entry.{Entry}
 use Rattle.entries.specs.Fault.{span}
 use Rattle.entries.specs.Entry.{entryOf}
 use Rattle.sequence.specs.Lists.{In}
-use Rattle.sequence.specs.Arrangement.{Arrangement, words}
 use Rattle.sequence.specs.Build.{spell, Build}
 use Rattle.sequence.specs.Verdict.{Verdict, sole, several, noBuild, Tells, Outcome, settled, unsettled, NoLater}
 use Rattle.spans.specs.Walk.{builds, placements}
@@ -32,12 +30,6 @@ pub record Entered (l : ℕ) (es : List Slot) : Type 0 where
   pub some-entry : 0 < length es
   pub fits : (e : Slot) → In e es → e .word < 4 ^ l
   pub spans : (e : Slot) → In e es → e .one ≤ e .two
-
--- an arrangement, by its words
-pub record Worded (l : ℕ) (es : List Slot) (ws : List ℕ) : Type 0 where
-  pub order : List Entry
-  pub arrangement : Arrangement l (spanEntries es) order
-  pub in-order : ws ≡ words order
 
 abbrev pub verdictOn : ℕ → List (List ℕ) → Verdict
 verdictOn l [] = noBuild

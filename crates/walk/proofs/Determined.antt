@@ -8,39 +8,19 @@ use denote.Ref.{now}
 use denote.Triple.Clauses.{AtExit}
 use borrow.Fn.Kinds.{Dens, resT, endedOf}
 use lib.ListN.{length, take}
-use Rattle.entries.specs.declared.Slot.{Slot}
 use Rattle.entries.specs.declared.Entry.{Entry}
-use Rattle.entries.specs.Entry.{entryOf}
 use Rattle.entries.specs.Fault.{span}
 use Rattle.sequence.specs.Lists.{In}
 use Rattle.sequence.specs.Build.{spell}
 use Rattle.sequence.specs.Verdict.{sole, several, noBuild, Outcome, settled, unsettled}
-use Rattle.sequence.proofs.ListLaws.{in-map}
-use Rattle.sequence.proofs.BuildLaws.{words-length, arrangement-chained}
-use Rattle.sequence.proofs.SpellingLaws.{Chained, spell-one}
-use Rattle.spans.specs.Settling.{Entered, spanEntries, Worded}
-use Rattle.spans.proofs.Builds.{same-word}
+use Rattle.sequence.proofs.BuildLaws.{entries-fit, worded-one}
 use Rattle.spans.proofs.Meant.{means-one}
 use Rattle.walk.specs.declared.Walked.{Walked}
 use Rattle.walk.specs.declared.Walked.the-variants.{Sole, Several, None, Unsettled}
-use Rattle.walk.specs.Walked.{saysWalked, GivesBuild, Walks}
+use Rattle.walk.specs.Walked.{entriesIn, saysWalked, GivesBuild, Right}
 use Rattle.walk.proofs.WholeLaws.{entered}
 use Rattle.walk.proofs.walk.Kinds as walk-kinds
 use Rattle.walk.proofs.walk.Reads as walk-reads
-
--- ---- the words of an arrangement are those that it spells
-
-module _ {l : ℕ} {es : List Slot} (admitted : Entered l es) where
-  entry-fits : (e : Entry) → In e (spanEntries es) → e .word < 4 ^ l
-  entry-fits e h = let u = in-map (entryOf span) es h in rw (u .2) (rw (same-word (u .0)) (admitted .fits (u .0) (u .1)))
-
-  worded-chained : {ws : List ℕ} → Worded l es ws → Chained l ws
-  worded-chained w = rw (w .in-order) (arrangement-chained entry-fits (w .arrangement))
-
-  pub worded-one : {ws vs : List ℕ} → Worded l es ws → Worded l es vs → spell l ws ≡ spell l vs → ws ≡ vs
-  worded-one w v =
-      spell-one (worded-chained w) (worded-chained v)
-      (ap length (w .in-order) ∙ words-length (w .arrangement) ∙ sym (words-length (v .arrangement)) ∙ sym (ap length (v .in-order)))
 
 -- ---- the enum, had back from what it says
 
@@ -70,21 +50,25 @@ spelled-in l ws (Several n) g = refl
 spelled-in l ws (None n) g = absurd g
 spelled-in l ws (Unsettled n) g = absurd g
 
--- ---- two outcomes are one
+-- ---- two answers that are right are one
 
-module _ {l budget : ℕ} {es : List Slot} {r r′ : Walked} {ws vs : List ℕ} (admitted : Entered l es) (p : Walks l es budget r ws)
-    (q : Walks l es budget r′ vs) where
+-- one outcome at most is true
+abbrev pub Single : (Outcome → Type 0) → Type 0
+Single True = (o o′ : Outcome) → True o → True o′ → o ≡ o′
+
+module _ {l : ℕ} {es : List Entry} {True : Outcome → Type 0} {r r′ : Walked} {ws vs : List ℕ}
+    (single : Single True) (p : Right l es True r ws) (q : Right l es True r′ vs) where
   same : saysWalked l ws r ≡ saysWalked l vs r′
-  same = means-one (p .means) (q .means)
+  same = single (saysWalked l ws r) (saysWalked l vs r′) (p .means) (q .means)
 
-  pub walks-one : r ≡ r′
-  walks-one = sym (walked-back l ws r) ∙ ap walkedBack same ∙ walked-back l vs r′
+  pub right-one : r ≡ r′
+  right-one = sym (walked-back l ws r) ∙ ap walkedBack same ∙ walked-back l vs r′
 
-  pub words-one : GivesBuild r → ws ≡ vs
-  words-one g =
-      let g′ : GivesBuild r′ = rw walks-one at g in
-      worded-one admitted (p .worded g) (q .worded g′)
-      (sym (spelled-in l ws r g) ∙ ap spelledIn same ∙ spelled-in l vs r′ g′)
+  -- and so are the words, where the words of the entries have l letters
+  pub words-one : ((e : Entry) → In e es → e .word < 4 ^ l) → GivesBuild r → ws ≡ vs
+  words-one fits g =
+      let g′ : GivesBuild r′ = rw right-one at g in
+      worded-one fits (p .worded g) (q .worded g′) (sym (spelled-in l ws r g) ∙ ap spelledIn same ∙ spelled-in l vs r′ g′)
 
 pub walk-one : (κs : Lfts 10) (a : Dens κs walk-kinds.ps) (r r′ : resT walk-kinds.r κs .Denot)
     (e e′ : AtExit (endedOf 10 walk-kinds.ps walk-kinds.r) κs)
@@ -94,4 +78,6 @@ pub walk-one : (κs : Lfts 10) (a : Dens κs walk-kinds.ps) (r r′ : resT walk-
     → (r ≡ r′)
     × (GivesBuild r → take (length (now (a .1 .0))) (now (e .1 .1 .1 .1 .1 .1 .1 .1 .1 .1 .1 .0)) ≡ take (length (now (a .1 .0)))
     (now (e′ .1 .1 .1 .1 .1 .1 .1 .1 .1 .1 .1 .0)))
-walk-one κs a r r′ e e′ pre p q = (walks-one (entered (pre .0)) p q, words-one (entered (pre .0)) p q)
+walk-one κs a r r′ e e′ pre p q =
+    let es = entriesIn (now (a .1 .0)) (now (a .1 .1 .0)) (now (a .1 .1 .1 .0)) in
+    (right-one (λ o o′. means-one) p q, words-one (λ o o′. means-one) p q (entries-fit (a .0) span es (entered (pre .0) .fits)))

@@ -5,7 +5,7 @@ use mathlib.Core.List.{List, [], _∷_, _++_, map}
 use mathlib.Core.Option.{none}
 use Prim.Native.Nat.{ℕ, zero, suc, _+_, _-_, _^_, _≤_, _<_}
 use native.Mathlib.Omega.{arith}
-use lib.ListN.{length, getD, take, length-map}
+use lib.ListN.{length, getD, take}
 use lib.Seq.{getD-take, length-take-le}
 use borrow.Author.Tests.{eq-eqb}
 use Rattle.answers.specs.Row.{row}
@@ -14,12 +14,12 @@ use Rattle.entries.specs.declared.Slot.{Slot}
 use Rattle.entries.specs.Slot.{slotFrom}
 use Rattle.entries.proofs.SlotLaws.{slot-from}
 use Rattle.sequence.specs.Lists.{keep, numbers}
-use Rattle.sequence.proofs.ListLaws.{in-map}
+use Rattle.sequence.specs.Build.{Worded}
+use Rattle.sequence.proofs.ListLaws.{in-row}
 use Rattle.spans.specs.Walk.{walk, walked}
-use Rattle.spans.specs.Settling.{Entered, Means, Worded}
+use Rattle.spans.specs.Settling.{Entered, spanEntries, Means}
 use Rattle.spans.specs.Run.{Run, searching, run, comeTo}
 use Rattle.spans.proofs.Meant.{outcome-means}
-use Rattle.spans.proofs.Indices.{numbers-in, length-numbers}
 use Rattle.spans.proofs.Runs.{Keeps, keeps-one, keeps-two, run-answers, run-worded}
 use Rattle.tables.specs.Spans.{Spans}
 use Rattle.tables.specs.Prepared.{Prepared}
@@ -64,18 +64,11 @@ left-all words ones twos {marks} u e =
 
 -- lists that the entry rules admit are entries that they admit
 pub entered : {l : ℕ} {words ones twos : List ℕ} → Spans l words ones twos → Entered l (entriesIn words ones twos)
-entered {l} {words} {ones} {twos} card = rw (← numbers-row words ones twos 0 (length words)) record {
-  some-entry = omega (
-    arith,
-    card .some-entry,
-    length-map (numbers 0 (length words)) (spanAt words ones twos),
-    length-numbers 0
-        (length words),
-  );
-  fits = λ e h. let u = in-map (spanAt words ones twos) (numbers 0 (length words)) h in
-      rw (u .2) (card .fits (u .0) (omega (arith, numbers-in 0 (length words) (u .0) (u .1))));
-  spans = λ e h. let u = in-map (spanAt words ones twos) (numbers 0 (length words)) h in
-      rw (u .2) (spans-rise card (u .0) (omega (arith, numbers-in 0 (length words) (u .0) (u .1))));
+unfolding slotFrom
+entered {l} {words} {ones} {twos} card = record {
+  some-entry = omega (arith, card .some-entry, length-row (slotFrom words ones twos) 0 (length words));
+  fits = λ e h. let u = in-row (slotFrom words ones twos) 0 (length words) h in rw (u .2) (card .fits (u .0) (omega (arith, u .1)));
+  spans = λ e h. let u = in-row (slotFrom words ones twos) 0 (length words) h in rw (u .2) (spans-rise card (u .0) (omega (arith, u .1)));
 }
 
 map-none : (reached : List (List ℕ)) → map (λ ws. [] ++ ws) reached ≡ reached
@@ -135,7 +128,8 @@ module _ {l : ℕ} {words ones twos starts slots marks : List ℕ} (card : Spans
     pub whole-walk : Walks l es budget (walkedAt budget placed′ state′) kept′
     whole-walk = go shown (rw (← run-answers l es budget) at (outcome-means (entered card) budget)) (run-worded l es budget)
       where
-        go : {n s : ℕ} {ws : List ℕ} {r : Run} → Shows [] n s ws r → Means l es budget (comeTo l budget r) → Keeps (Worded l es) r
+        go : {n s : ℕ} {ws : List ℕ} {r : Run} → Shows [] n s ws r → Means l es budget (comeTo l budget r)
+            → Keeps (Worded l (spanEntries es)) r
             → Walks l es budget (walkedAt budget n s) ws
         go (none-yet e) m k = record { means = m; worded = λ none-is. absurd none-is }
         go one-build m (keeps-one w) = record { means = m; worded = λ some-is. w }

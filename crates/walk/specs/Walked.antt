@@ -3,6 +3,8 @@
 --   entriesIn words ones twos      == the entries of the lists, in the order of their indices
 --   saysWalked l ws r              == what the enum `Walked` says, where ws are the words that are given with it
 --   GivesBuild r                   == r gives a build
+--   Right l es True r ws           == r says what is true, where `True o` says so of an outcome o, and where it gives a build, ws are the
+--                                     words of an arrangement of the entries es
 --   Walks l es budget r ws         == what a walk over the entries es promises
 -- Assumes nothing.
 use mathlib.Core.List.{List}
@@ -10,10 +12,11 @@ use Prim.Native.Nat.{ℕ}
 use lib.ListN.{length}
 use Rattle.answers.specs.Row.{row}
 use Rattle.entries.specs.declared.Slot.{Slot}
+use Rattle.entries.specs.declared.Entry.{Entry}
 use Rattle.entries.specs.Slot.{slotFrom}
-use Rattle.sequence.specs.Build.{spell}
+use Rattle.sequence.specs.Build.{spell, Worded}
 use Rattle.sequence.specs.Verdict.{sole, several, noBuild, Outcome, settled, unsettled}
-use Rattle.spans.specs.Settling.{Means, Worded}
+use Rattle.spans.specs.Settling.{spanEntries, Means}
 use Rattle.walk.specs.declared.Walked.{Walked}
 use Rattle.walk.specs.declared.Walked.the-variants.{Sole, Several, None, Unsettled}
 
@@ -37,6 +40,9 @@ GivesBuild (Several n) = Unit {0}
 GivesBuild (None n) = ⊥
 GivesBuild (Unsettled n) = ⊥
 
-pub record Walks (l : ℕ) (es : List Slot) (budget : ℕ) (r : Walked) (ws : List ℕ) : Type 0 where
-  pub means : Means l es budget (saysWalked l ws r)
+pub record Right (l : ℕ) (es : List Entry) (True : Outcome → Type 0) (r : Walked) (ws : List ℕ) : Type 0 where
+  pub means : True (saysWalked l ws r)
   pub worded : GivesBuild r → Worded l es ws
+
+abbrev pub Walks : ℕ → List Slot → ℕ → Walked → List ℕ → Type 0
+Walks l es budget r ws = Right l (spanEntries es) (Means l es budget) r ws

@@ -5,7 +5,7 @@ use native.Mathlib.Omega.{arith}
 use lib.ListN.{length, getD}
 use borrow.Author.Needs.{needs}
 use Rattle.tables.proofs.PartLaws.{Filling, filling-none, filling-turn}
-use Rattle.builds.proofs.WalkingLaws.{filled-same}
+use Rattle.builds.proofs.AnsweringLaws.{filled-same}
 use Rattle.builds.proofs.copy_words.Statement.{statement}
 use Rattle.builds.proofs.copy_words.Tie as tie
 

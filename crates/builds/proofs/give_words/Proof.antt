@@ -1,6 +1,6 @@
 -- `give_words` meets its contract, verdict by verdict. Assumes nothing.
 use borrow.Author.Needs.{needs}
-use Rattle.builds.proofs.WalkingLaws.{gives-sole, gives-several}
+use Rattle.builds.proofs.AnsweringLaws.{gives-sole, gives-several}
 use Rattle.builds.proofs.give_words.Statement.{statement}
 use Rattle.builds.proofs.give_words.Tie as tie
 

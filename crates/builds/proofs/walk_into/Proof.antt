@@ -78,9 +78,9 @@ returns c =
     let at = start (walked lent) in
     record {
       found = _;
-      walks = walked lent .walk .ensures;
+      right = walked lent .walk .ensures;
       all = found-all lent ∙ sym (at .pre .1 .1);
-      words = c .before .before .give-words .ensures;
+      output = c .before .before .give-words .ensures;
     }
 
 pub walk-into-spec : {M : Type 1} → statement M

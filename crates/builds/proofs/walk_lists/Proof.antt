@@ -8,8 +8,9 @@ use Rattle.answers.proofs.Laws.{told-holds, told-refused}
 use Rattle.entries.specs.Fault.{span}
 use Rattle.layout.specs.Bounds.{mostEntries}
 use Rattle.lists.specs.Lists.{listsTests}
-use Rattle.lists.proofs.SpanLaws.{lists-span}
-use Rattle.builds.proofs.WalkingLaws.{span-card, lists-refused, no-room, walk-answered}
+use Rattle.lists.proofs.KindLaws.{lists-span}
+use Rattle.builds.proofs.AnsweringLaws.{lists-refused, no-room, answered}
+use Rattle.builds.proofs.WalkingLaws.{span-card}
 use Rattle.builds.proofs.walk_lists.Statement.{statement}
 use Rattle.builds.proofs.walk_lists.Tie as tie
 
@@ -59,7 +60,7 @@ same-length c = search needs
 returns-3 : tie.Need-returns-3
 returns-3 c =
     let room = c .before .before .before .before in
-    walk-answered (hold (room .before)) (omega (arith, room .if1 .left)) (c .before .before .walk-into .ensures) refl
+    answered (hold (room .before)) (omega (arith, room .if1 .left)) (c .before .before .walk-into .ensures) refl
 
 pub walk-lists-spec : {M : Type 1} → statement M
 walk-lists-spec =
