@@ -1,15 +1,14 @@
 -- Laws of choosing the word of a place. No contract cites this file. Assumes nothing.
-use mathlib.Core.Path.{_≡_, refl, sym, ap, _∙_}
+use mathlib.Core.Path.{_≡_, refl, sym, _∙_}
 use mathlib.Core.Bool.{Bool, true, false, true≢false}
 use mathlib.Core.List.{List}
 use mathlib.Core.Logic.{_≢_, _⊎_, inl, inr, ⊎-elim, by-cases}
-use Prim.Native.Nat.{ℕ, _+_, _-_, _*_, _<_, _≤_}
+use Prim.Native.Nat.{ℕ, _-_, _<_, _≤_}
 use native.Mathlib.Omega.{arith}
 use native.Mathlib.Decide.{ℕ-discrete, decLt}
-use lib.ListN.{length}
 use Rattle.pairs.specs.Arranged.{Pairs, Inside, Stands, Arranged}
-use Rattle.pairs.specs.Chosen.{Agrees, Closed, Possible, HasWord, Refuted, Followed, Seen, Tried, Cleared, Chosen}
-use Rattle.following.specs.Following.{Card, Trail, Follows, Attempt, of, pairsOf}
+use Rattle.pairs.specs.Chosen.{Agrees, Closed, Possible, HasWord, Refuted, Followed, Seen, Cleared}
+use Rattle.following.specs.Following.{Trail, Follows, Attempt, of}
 use Rattle.pairs.specs.Chosen.{NoBuild}
 use Rattle.choosing.specs.Choosing.{Joined, Tries, Weighed, Drops, DropsAll, Chooses}
 use Rattle.following.specs.Common.{Common}

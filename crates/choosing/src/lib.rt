@@ -26,7 +26,10 @@ fn with_word(s: Words, w: u32) -> Words
         return Words { least: w, many: 1 };
     }
     if w == s.least {
-        return s;
+        return Words {
+            least: w,
+            many: s.many,
+        };
     }
     if w < s.least {
         return Words { least: w, many: 2 };
@@ -40,7 +43,10 @@ fn with_word(s: Words, w: u32) -> Words
 // The words s, with that of entry e if it can still come to stand at t.
 fn also(word: &[u32], put: &[usize], e: usize, t: usize, s: Words) -> Words
     requires { ⌜ (e < length (now word)) × (length (now put) ≡ length (now word)) ⌝ }
-    ensures { λ r. ⌜ ((((length (now (word .entry)) ≤ of (now (put .entry)) e) ⊎ (of (now (put .entry)) e ≡ t)) → ⊥) × (r .least ≡ s .least) × (r .many ≡ s .many)) ⊎ Joined (s .least) (s .many) (of (now (word .entry)) e) (r .least) (r .many) ⌝ }
+    ensures { λ r. ⌜
+        ((((length (now (word .entry)) ≤ of (now (put .entry)) e) ⊎ (of (now (put .entry)) e ≡ t)) → ⊥) × (r .least ≡ s .least) × (r .many ≡ s .many))
+        ⊎ Joined (s .least) (s .many) (of (now (word .entry)) e) (r .least) (r .many)
+        ⌝ }
 {
     if following::possible(put, e, t) {
         return with_word(s, word[e]);
@@ -58,7 +64,12 @@ fn words_at(
     put: &[usize],
     t: usize,
 ) -> Words
-    requires { ⌜ (t < length (now word)) × (length (now put) ≡ length (now word)) × Card (now at) (now word) cut × Links (now at) (now word) (now last) (now prev) ⌝ }
+    requires { ⌜
+        (t < length (now word))
+        × (length (now put) ≡ length (now word))
+        × Card (now at) (now word) cut
+        × Links (now at) (now word) (now last) (now prev)
+        ⌝ }
     ensures { λ r. ⌜ Common (pairsOf (now (at .entry)) (now (word .entry)) cut) (of (now (put .entry))) t 0 (r .least) (r .many) ⌝ }
 {
     let mut s = Words { least: 0, many: 0 };
@@ -87,7 +98,10 @@ fn works(
     requires { ⌜ Ready (now at) (now word) cut (now last) (now prev) (now put) (now trail) n ⌝ }
     requires { ⌜ Closed (pairsOf (now at) (now word) cut) (of (now put)) ⌝ }
     requires { ⌜ (e < length (now word)) × (t < length (now word)) × Stands (pairsOf (now at) (now word) cut) e t ⌝ }
-    ensures { λ r. ⌜ Attempt (pairsOf (now (at .entry)) (now (word .entry)) cut) (now (put .entry)) (now (trail .entry)) n e t (now (put .exit)) (now (trail .exit)) r ⌝ }
+    ensures { λ r. ⌜
+        Attempt (pairsOf (now (at .entry)) (now (word .entry)) cut) (now (put .entry)) (now (trail .entry)) n e t (now (put .exit))
+        (now (trail .exit)) r
+        ⌝ }
 {
     let p = put[e];
     if p == t {
@@ -116,7 +130,10 @@ fn tried(
     requires { ⌜ Ready (now at) (now word) cut (now last) (now prev) (now put) (now trail) n ⌝ }
     requires { ⌜ Closed (pairsOf (now at) (now word) cut) (of (now put)) ⌝ }
     requires { ⌜ (e < length (now word)) × (t < length (now word)) × Stands (pairsOf (now at) (now word) cut) e t ⌝ }
-    ensures { λ r. ⌜ Tries (pairsOf (now (at .entry)) (now (word .entry)) cut) (now (put .entry)) n e t (s .least) (s .many) (now (put .exit)) (now (trail .exit)) (r .least) (r .many) ⌝ }
+    ensures { λ r. ⌜
+        Tries (pairsOf (now (at .entry)) (now (word .entry)) cut) (now (put .entry)) n e t (s .least) (s .many) (now (put .exit))
+        (now (trail .exit)) (r .least) (r .many)
+        ⌝ }
 {
     if works(at, word, cut, last, prev, put, trail, n, e, t) {
         return with_word(s, word[e]);
@@ -139,7 +156,11 @@ fn weigh(
     requires { ⌜ Ready (now at) (now word) cut (now last) (now prev) (now put) (now trail) n ⌝ }
     requires { ⌜ Closed (pairsOf (now at) (now word) cut) (of (now put)) ⌝ }
     requires { ⌜ t < length (now word) ⌝ }
-    ensures { λ r. ⌜ (now (put .exit) ≡ now (put .entry)) × Trail (length (now (word .entry))) (now (put .entry)) (now (trail .exit)) n × Weighed (pairsOf (now (at .entry)) (now (word .entry)) cut) (of (now (put .entry))) t 0 (r .least) (r .many) ⌝ }
+    ensures { λ r. ⌜
+        (now (put .exit) ≡ now (put .entry))
+        × Trail (length (now (word .entry))) (now (put .entry)) (now (trail .exit)) n
+        × Weighed (pairsOf (now (at .entry)) (now (word .entry)) cut) (of (now (put .entry))) t 0 (r .least) (r .many)
+        ⌝ }
 {
     let mut s = Words { least: 0, many: 0 };
     let mut k = last[t];
@@ -168,21 +189,24 @@ fn send_off(
     requires { ⌜ Ready (now at) (now word) cut (now last) (now prev) (now put) (now trail) n ⌝ }
     requires { ⌜ Closed (pairsOf (now at) (now word) cut) (of (now put)) ⌝ }
     requires { ⌜ (e < length (now word)) × (t < length (now word)) × Stands (pairsOf (now at) (now word) cut) e t ⌝ }
-    ensures { λ r. ⌜ Drops (pairsOf (now (at .entry)) (now (word .entry)) cut) (now (put .entry)) t w e (now (put .exit)) (now (trail .exit)) (r .n) (r .ok) ⌝ }
+    ensures { λ r. ⌜
+        Drops (pairsOf (now (at .entry)) (now (word .entry)) cut) (now (put .entry)) t w e (now (put .exit)) (now (trail .exit)) (r .n)
+        (r .ok)
+        ⌝ }
 {
     if word[e] == w {
-        return Step { n: n, ok: true };
+        return Step { n, ok: true };
     }
     let p = put[e];
     if p == t {
-        return Step { n: n, ok: false };
+        return Step { n, ok: false };
     }
     if p < word.len() {
-        return Step { n: n, ok: true };
+        return Step { n, ok: true };
     }
     let q = following::other(at, e, t);
     if q == t {
-        return Step { n: n, ok: false };
+        return Step { n, ok: false };
     }
     following::follow(at, word, cut, last, prev, put, trail, n, e, q)
 }
@@ -203,7 +227,10 @@ fn keep_word(
     requires { ⌜ Ready (now at) (now word) cut (now last) (now prev) (now put) (now trail) n ⌝ }
     requires { ⌜ Closed (pairsOf (now at) (now word) cut) (of (now put)) ⌝ }
     requires { ⌜ t < length (now word) ⌝ }
-    ensures { λ r. ⌜ DropsAll (pairsOf (now (at .entry)) (now (word .entry)) cut) (now (put .entry)) t w (now (put .exit)) (now (trail .exit)) (r .n) (r .ok) ⌝ }
+    ensures { λ r. ⌜
+        DropsAll (pairsOf (now (at .entry)) (now (word .entry)) cut) (now (put .entry)) t w (now (put .exit)) (now (trail .exit)) (r .n)
+        (r .ok)
+        ⌝ }
 {
     let mut far = n;
     let mut k = last[t];
@@ -243,12 +270,15 @@ fn choose(
     requires { ⌜ Ready (now at) (now word) cut (now last) (now prev) (now put) (now trail) n ⌝ }
     requires { ⌜ Closed (pairsOf (now at) (now word) cut) (of (now put)) ⌝ }
     requires { ⌜ t < length (now word) ⌝ }
-    ensures { λ r. ⌜ Chooses (pairsOf (now (at .entry)) (now (word .entry)) cut) (now (put .entry)) t (r .word) (r .more) (now (put .exit)) (now (trail .exit)) (r .n) (r .ok) ⌝ }
+    ensures { λ r. ⌜
+        Chooses (pairsOf (now (at .entry)) (now (word .entry)) cut) (now (put .entry)) t (r .word) (r .more) (now (put .exit))
+        (now (trail .exit)) (r .n) (r .ok)
+        ⌝ }
 {
     let a = words_at(at, word, cut, last, prev, put, t);
     if a.many == 0 {
         return Choice {
-            n: n,
+            n,
             ok: false,
             word: 0,
             more: 0,
@@ -256,7 +286,7 @@ fn choose(
     }
     if a.many == 1 {
         return Choice {
-            n: n,
+            n,
             ok: true,
             word: a.least,
             more: 0,
@@ -265,7 +295,7 @@ fn choose(
     let b = weigh(at, word, cut, last, prev, put, trail, n, t);
     if b.many == 0 {
         return Choice {
-            n: n,
+            n,
             ok: false,
             word: 0,
             more: 0,
@@ -303,7 +333,10 @@ pub fn choose_all(
     requires { ⌜ Closed (pairsOf (now at) (now word) cut) (of (now put)) ⌝ }
     requires { ⌜ length (now words) ≡ length (now word) ⌝ }
     requires { ⌜ Upto (pairsOf (now at) (now word) cut) (of (now put)) 0 (of (now words)) 0 ⌝ }
-    ensures { λ r. ⌜ ChoosesAll (pairsOf (now (at .entry)) (now (word .entry)) cut) (now (put .exit)) (now (trail .exit)) (r .n) (r .ok) (r .choices) (now (words .exit)) ⌝ }
+    ensures { λ r. ⌜
+        ChoosesAll (pairsOf (now (at .entry)) (now (word .entry)) cut) (now (put .exit)) (now (trail .exit)) (r .n) (r .ok) (r .choices)
+        (now (words .exit))
+        ⌝ }
 {
     let mut far = n;
     let mut choices: usize = 0;
@@ -326,6 +359,6 @@ pub fn choose_all(
     Tally {
         n: far,
         ok: true,
-        choices: choices,
+        choices,
     }
 }

@@ -1,17 +1,17 @@
 -- Laws of following what a placement forces. No contract cites this file. Assumes nothing.
 use mathlib.Core.Path.{_≡_, refl, sym, ap, _∙_}
-use mathlib.Core.Bool.{Bool, true, false, cond, true≢false}
+use mathlib.Core.Bool.{Bool, true, false, true≢false}
 use mathlib.Core.List.{List, [], _∷_}
 use mathlib.Core.Logic.{_≢_, _⊎_, inl, inr, ⊎-elim, by-cases}
 use Prim.Native.Nat.{ℕ, zero, suc, _+_, _-_, _*_, _/_, _<_, _≤_}
 use native.Mathlib.Omega.{arith}
 use native.Mathlib.Decide.{ℕ-discrete, decLt}
-use lib.Dec.{ltb, eqb}
+use lib.Dec.{eqb}
 use lib.ListN.{length, getD, set, length-set}
 use lib.Seq.{getD-set-same, getD-set-other, ext-getD}
 use borrow.Author.Tests.{lt-ltb, le-ltb, eqb-true, eqb-false}
 use Rattle.pairs.specs.Arranged.{Pairs, Inside, Stands, Goes, Arranged}
-use Rattle.pairs.specs.Chosen.{Agrees, Closed, Followed, Refuted, Possible, Seen}
+use Rattle.pairs.specs.Chosen.{Agrees, Closed, Possible, Seen}
 use Rattle.pairs.proofs.Extends.{filled, was-possible}
 use Rattle.following.specs.Following.{Free, Rid, RidFrom, OnTrail, Traced, Forced, Clash, Done, Put, Trail, Card, Links, Went, Follows, Undone, Attempt, Tells, unplaced, of, pairsOf}
 

@@ -1,11 +1,11 @@
 -- Going through the list of a place, a slot at a time. No contract cites this file. Assumes nothing.
-use mathlib.Core.Path.{_≡_, refl, sym, ap, _∙_}
+use mathlib.Core.Path.{_≡_, sym, ap, _∙_}
 use mathlib.Core.List.{List}
-use mathlib.Core.Logic.{_≢_, _⊎_, inl, inr, ⊎-elim, by-cases}
+use mathlib.Core.Logic.{_≢_, _⊎_, inl, inr, ⊎-elim}
 use Prim.Native.Nat.{ℕ, _+_, _-_, _*_, _/_, _<_, _≤_}
 use native.Mathlib.Omega.{arith}
 use lib.ListN.{length}
-use Rattle.pairs.specs.Arranged.{Pairs, Stands}
+use Rattle.pairs.specs.Arranged.{Stands}
 use Rattle.pairs.specs.Chosen.{Seen, Possible}
 use Rattle.following.specs.Following.{Card, Links, of, pairsOf}
 use Rattle.following.proofs.Forcing.{seen-next, slot-of}

@@ -10,11 +10,11 @@ use mathlib.Core.Path.{_≡_}
 use mathlib.Core.Bool.{Bool, true, false, cond}
 use mathlib.Core.List.{List, [], _∷_}
 use mathlib.Core.Logic.{_≢_, _⊎_}
-use Prim.Native.Nat.{ℕ, suc, _+_, _*_, _-_, _/_, _%_, _<_, _≤_}
+use Prim.Native.Nat.{ℕ, _+_, _*_, _-_, _/_, _%_, _<_, _≤_}
 use lib.Dec.{ltb}
 use lib.ListN.{length, getD}
-use Rattle.pairs.specs.Arranged.{Pairs, Inside, Stands, Goes, Arranged}
-use Rattle.pairs.specs.Chosen.{Agrees, Closed, Followed, Refuted, Seen}
+use Rattle.pairs.specs.Arranged.{Pairs, Stands, Goes, Arranged}
+use Rattle.pairs.specs.Chosen.{Agrees, Followed, Refuted, Seen}
 
 -- ---- the card and the places so far, as lists
 

@@ -9,7 +9,8 @@ ghost use mathlib.Core.List.{List};
 ghost use lib.ListN.{length, getD};
 ghost use Rattle.pairs.specs.Arranged.{Stands, Goes};
 ghost use Rattle.pairs.specs.Chosen.{Closed, Possible};
-ghost use Rattle.following.specs.Following.{pairsOf, of, Card, Links, Trail, Tells, Ready, Went, Follows, Undone, Attempt, Rid, RidFrom, Free};
+ghost use Rattle.following.specs.Following.{pairsOf, of, Card, Links, Trail, Tells, Ready};
+ghost use Rattle.following.specs.Following.{Free, Rid, RidFrom, Went, Follows, Undone, Attempt};
 
 // How far the trail goes, and whether nothing clashed.
 pub struct Step {
@@ -31,7 +32,12 @@ pub fn possible(put: &[usize], e: usize, t: usize) -> bool
 
 // The place of entry f that is not q.
 pub fn other(at: &[usize], f: usize, q: usize) -> usize
-    requires { ⌜ (2 * f + 1 < length (now at)) × (getD (now at) (2 * f) 0 < length (now at)) × (getD (now at) (2 * f + 1) 0 < length (now at)) × (q ≤ getD (now at) (2 * f) 0 + getD (now at) (2 * f + 1) 0) ⌝ }
+    requires { ⌜
+        (2 * f + 1 < length (now at))
+        × (getD (now at) (2 * f) 0 < length (now at))
+        × (getD (now at) (2 * f + 1) 0 < length (now at))
+        × (q ≤ getD (now at) (2 * f) 0 + getD (now at) (2 * f + 1) 0)
+        ⌝ }
     ensures { λ r. ⌜ r ≡ (getD (now (at .entry)) (2 * f) 0 + getD (now (at .entry)) (2 * f + 1) 0) - q ⌝ }
 {
     let one = 2 * f;
@@ -43,14 +49,16 @@ fn goes(word: &[u32], cut: u32, e: usize, p: usize, f: usize, q: usize) -> bool
     requires { ⌜ (e < length (now word)) × (f < length (now word)) × (p < length (now word)) × (q < length (now word)) × (0 < cut) ⌝ }
     ensures { λ r. ⌜ ((at : List ℕ) → Tells (Goes (pairsOf at (now (word .entry)) cut) e p f q) r) ⌝ }
 {
+    let mine = word[e];
+    let other = word[f];
     if p == q {
         return false;
     }
     if q == p + 1 {
-        return word[e] % cut == word[f] / 4;
+        return mine % cut == other / 4;
     }
     if p == q + 1 {
-        return word[f] % cut == word[e] / 4;
+        return other % cut == mine / 4;
     }
     true
 }
@@ -69,25 +77,34 @@ fn exclude(
 ) -> Step
     requires { ⌜ Card (now at) (now word) cut ⌝ }
     requires { ⌜ Trail (length (now word)) (now put) (now trail) n ⌝ }
-    requires { ⌜ (e < length (now word)) × (f < length (now word)) × (q < length (now word)) × (of (now put) e < length (now word)) × Stands (pairsOf (now at) (now word) cut) f q ⌝ }
-    ensures { λ r. ⌜ Went (pairsOf (now (at .entry)) (now (word .entry)) cut) (now (put .entry)) (now (trail .entry)) n (now (put .exit)) (now (trail .exit)) (r .n) (r .ok) (e ≢ f → Free (pairsOf (now (at .entry)) (now (word .entry)) cut) (of (now (put .exit))) e f q) ⌝ }
+    requires { ⌜
+        (e < length (now word))
+        × (f < length (now word))
+        × (q < length (now word))
+        × (of (now put) e < length (now word))
+        × Stands (pairsOf (now at) (now word) cut) f q
+        ⌝ }
+    ensures { λ r. ⌜
+        Went (pairsOf (now (at .entry)) (now (word .entry)) cut) (now (put .entry)) (now (trail .entry)) n (now (put .exit))
+        (now (trail .exit)) (r .n) (r .ok) (e ≢ f → Free (pairsOf (now (at .entry)) (now (word .entry)) cut) (of (now (put .exit))) e f q)
+        ⌝ }
 {
     if e == f {
-        return Step { n: n, ok: true };
+        return Step { n, ok: true };
     }
     if goes(word, cut, e, put[e], f, q) {
-        return Step { n: n, ok: true };
+        return Step { n, ok: true };
     }
     let was = put[f];
     if was == q {
-        return Step { n: n, ok: false };
+        return Step { n, ok: false };
     }
     if was < word.len() {
-        return Step { n: n, ok: true };
+        return Step { n, ok: true };
     }
     let r = other(at, f, q);
     if r == q {
-        return Step { n: n, ok: false };
+        return Step { n, ok: false };
     }
     put[f] = r;
     trail[n] = f;
@@ -109,7 +126,10 @@ fn clear(
 ) -> Step
     requires { ⌜ Ready (now at) (now word) cut (now last) (now prev) (now put) (now trail) n ⌝ }
     requires { ⌜ (e < length (now word)) × (q < length (now word)) × (of (now put) e < length (now word)) ⌝ }
-    ensures { λ r. ⌜ Went (pairsOf (now (at .entry)) (now (word .entry)) cut) (now (put .entry)) (now (trail .entry)) n (now (put .exit)) (now (trail .exit)) (r .n) (r .ok) (RidFrom (pairsOf (now (at .entry)) (now (word .entry)) cut) (of (now (put .exit))) e q 0) ⌝ }
+    ensures { λ r. ⌜
+        Went (pairsOf (now (at .entry)) (now (word .entry)) cut) (now (put .entry)) (now (trail .entry)) n (now (put .exit))
+        (now (trail .exit)) (r .n) (r .ok) (RidFrom (pairsOf (now (at .entry)) (now (word .entry)) cut) (of (now (put .exit))) e q 0)
+        ⌝ }
 {
     let mut k = last[q];
     let mut far = n;
@@ -136,8 +156,15 @@ fn can_be_filled(
     put: &[usize],
     q: usize,
 ) -> bool
-    requires { ⌜ (q < length (now word)) × (length (now put) ≡ length (now word)) × Card (now at) (now word) cut × Links (now at) (now word) (now last) (now prev) ⌝ }
-    ensures { λ r. ⌜ (r ≡ false → (e : ℕ) → e < length (now (word .entry)) → Possible (pairsOf (now (at .entry)) (now (word .entry)) cut) (of (now (put .entry))) q e → ⊥) ⌝ }
+    requires { ⌜
+        (q < length (now word))
+        × (length (now put) ≡ length (now word))
+        × Card (now at) (now word) cut
+        × Links (now at) (now word) (now last) (now prev)
+        ⌝ }
+    ensures { λ r. ⌜
+        (r ≡ false → (e : ℕ) → e < length (now (word .entry)) → Possible (pairsOf (now (at .entry)) (now (word .entry)) cut) (of (now (put .entry))) q e → ⊥)
+        ⌝ }
 {
     let mut k = last[q];
     while k > 0 {
@@ -165,13 +192,17 @@ fn near(
 ) -> Step
     requires { ⌜ Ready (now at) (now word) cut (now last) (now prev) (now put) (now trail) n ⌝ }
     requires { ⌜ (e < length (now word)) × (of (now put) e < length (now word)) ⌝ }
-    ensures { λ r. ⌜ Went (pairsOf (now (at .entry)) (now (word .entry)) cut) (now (put .entry)) (now (trail .entry)) n (now (put .exit)) (now (trail .exit)) (r .n) (r .ok) ((q : ℕ) → q + 1 ≡ after → RidFrom (pairsOf (now (at .entry)) (now (word .entry)) cut) (of (now (put .exit))) e q 0) ⌝ }
+    ensures { λ r. ⌜
+        Went (pairsOf (now (at .entry)) (now (word .entry)) cut) (now (put .entry)) (now (trail .entry)) n (now (put .exit))
+        (now (trail .exit)) (r .n) (r .ok)
+        ((q : ℕ) → q + 1 ≡ after → RidFrom (pairsOf (now (at .entry)) (now (word .entry)) cut) (of (now (put .exit))) e q 0)
+        ⌝ }
 {
     if after == 0 {
-        return Step { n: n, ok: true };
+        return Step { n, ok: true };
     }
     if after > word.len() {
-        return Step { n: n, ok: true };
+        return Step { n, ok: true };
     }
     let q = after - 1;
     let g = clear(at, word, cut, last, prev, put, trail, n, e, q);
@@ -198,7 +229,10 @@ fn rid(
 ) -> Step
     requires { ⌜ Ready (now at) (now word) cut (now last) (now prev) (now put) (now trail) n ⌝ }
     requires { ⌜ (e < length (now word)) × (of (now put) e < length (now word)) ⌝ }
-    ensures { λ r. ⌜ Went (pairsOf (now (at .entry)) (now (word .entry)) cut) (now (put .entry)) (now (trail .entry)) n (now (put .exit)) (now (trail .exit)) (r .n) (r .ok) (Rid (pairsOf (now (at .entry)) (now (word .entry)) cut) (of (now (put .exit))) e) ⌝ }
+    ensures { λ r. ⌜
+        Went (pairsOf (now (at .entry)) (now (word .entry)) cut) (now (put .entry)) (now (trail .entry)) n (now (put .exit))
+        (now (trail .exit)) (r .n) (r .ok) (Rid (pairsOf (now (at .entry)) (now (word .entry)) cut) (of (now (put .exit))) e)
+        ⌝ }
 {
     let p = put[e];
     let a = clear(at, word, cut, last, prev, put, trail, n, e, p);
@@ -227,8 +261,16 @@ pub fn follow(
 ) -> Step
     requires { ⌜ Ready (now at) (now word) cut (now last) (now prev) (now put) (now trail) n ⌝ }
     requires { ⌜ Closed (pairsOf (now at) (now word) cut) (of (now put)) ⌝ }
-    requires { ⌜ (e < length (now word)) × (length (now word) ≤ of (now put) e) × (p < length (now word)) × Stands (pairsOf (now at) (now word) cut) e p ⌝ }
-    ensures { λ r. ⌜ Follows (pairsOf (now (at .entry)) (now (word .entry)) cut) (now (put .entry)) (now (trail .entry)) n e p (now (put .exit)) (now (trail .exit)) (r .n) (r .ok) ⌝ }
+    requires { ⌜
+        (e < length (now word))
+        × (length (now word) ≤ of (now put) e)
+        × (p < length (now word))
+        × Stands (pairsOf (now at) (now word) cut) e p
+        ⌝ }
+    ensures { λ r. ⌜
+        Follows (pairsOf (now (at .entry)) (now (word .entry)) cut) (now (put .entry)) (now (trail .entry)) n e p (now (put .exit))
+        (now (trail .exit)) (r .n) (r .ok)
+        ⌝ }
 {
     put[e] = p;
     trail[n] = e;
@@ -276,8 +318,16 @@ pub fn attempt(
 ) -> bool
     requires { ⌜ Ready (now at) (now word) cut (now last) (now prev) (now put) (now trail) n ⌝ }
     requires { ⌜ Closed (pairsOf (now at) (now word) cut) (of (now put)) ⌝ }
-    requires { ⌜ (e < length (now word)) × (length (now word) ≤ of (now put) e) × (p < length (now word)) × Stands (pairsOf (now at) (now word) cut) e p ⌝ }
-    ensures { λ r. ⌜ Attempt (pairsOf (now (at .entry)) (now (word .entry)) cut) (now (put .entry)) (now (trail .entry)) n e p (now (put .exit)) (now (trail .exit)) r ⌝ }
+    requires { ⌜
+        (e < length (now word))
+        × (length (now word) ≤ of (now put) e)
+        × (p < length (now word))
+        × Stands (pairsOf (now at) (now word) cut) e p
+        ⌝ }
+    ensures { λ r. ⌜
+        Attempt (pairsOf (now (at .entry)) (now (word .entry)) cut) (now (put .entry)) (now (trail .entry)) n e p (now (put .exit))
+        (now (trail .exit)) r
+        ⌝ }
 {
     let g = follow(at, word, cut, last, prev, put, trail, n, e, p);
     undo(put, trail, n, g.n);

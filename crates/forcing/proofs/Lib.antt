@@ -1,2 +1,2 @@
+-- `Rooted` has the laws of a place with one entry left.
 pub mod Rooted
-pub mod Settled

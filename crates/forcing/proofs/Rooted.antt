@@ -1,15 +1,13 @@
 -- Laws of a place with one entry left. No contract cites this file. Assumes nothing.
-use mathlib.Core.Path.{_≡_, refl, sym, ap, _∙_}
+use mathlib.Core.Path.{_≡_, sym, ap, _∙_}
 use mathlib.Core.Bool.{Bool, true, false, true≢false}
 use mathlib.Core.List.{List}
-use mathlib.Core.Logic.{_≢_, _⊎_, inl, inr, ⊎-elim, by-cases}
-use Prim.Native.Nat.{ℕ, _+_, _<_, _≤_}
-use native.Mathlib.Omega.{arith}
+use mathlib.Core.Logic.{_≢_, _⊎_, inl, inr, by-cases}
+use Prim.Native.Nat.{ℕ, _<_, _≤_}
 use native.Mathlib.Decide.{ℕ-discrete}
 use Rattle.pairs.specs.Arranged.{Pairs, Inside, Arranged}
-use Rattle.pairs.specs.Chosen.{Agrees, Closed, Possible, Seen}
+use Rattle.pairs.specs.Chosen.{Possible, Seen}
 use Rattle.following.specs.Following.{Trail, Follows, of}
-use Rattle.pairs.specs.Chosen.{NoBuild}
 use Rattle.following.specs.Common.{Common}
 use Rattle.forcing.specs.Forcing.{Root, Roots, JoinedEntry, keyed}
 use Rattle.pairs.proofs.Extends.{filled, was-possible}

@@ -1,15 +1,14 @@
--- What places with one entry force, and what giving every entry a place comes to. No reader has to believe these.
+-- What places with one entry force. No reader has to believe these.
 --   keyed c                == the card with each entry's number for its word
 --   Root c s               == s is closed, and every arrangement has its places
 --   Roots                  == the places so far are such, or there is no arrangement
 --   JoinedEntry            == the entries of which a is one and n how many, none (0), one (1) or more (2), with entry e
---   Settles, SettlesAll    == an entry, and every entry, got a place, or there is no arrangement
 -- Assumes nothing.
 use mathlib.Core.Path.{_≡_}
 use mathlib.Core.Bool.{Bool, true, false}
 use mathlib.Core.List.{List}
-use mathlib.Core.Logic.{_≢_, _⊎_}
-use Prim.Native.Nat.{ℕ, _<_}
+use mathlib.Core.Logic.{_≢_}
+use Prim.Native.Nat.{ℕ}
 use Rattle.pairs.specs.Arranged.{Pairs, Arranged}
 use Rattle.pairs.specs.Chosen.{Agrees, Closed, NoBuild}
 use Rattle.following.specs.Following.{Trail, of}
@@ -32,14 +31,3 @@ pub record JoinedEntry (a n e a′ n′ : ℕ) : Type 0 where
   pub first : n ≡ 0 → (a′ ≡ e) × (n′ ≡ 1)
   pub same : n ≢ 0 → e ≡ a → (a′ ≡ a) × (n′ ≡ n)
   pub other : n ≢ 0 → e ≢ a → n′ ≡ 2
-
--- entry e got a place, or there is no arrangement
-pub record Settles (c : Pairs) (put : List ℕ) (e : ℕ) (put′ trail′ : List ℕ) (n′ : ℕ) (ok : Bool) : Type 0 where
-  pub shape : Trail (c .m) put′ trail′ n′
-  pub good : ok ≡ true → Closed c (of put′) × Agrees c (of put) (of put′) × (of put′ e < c .m)
-  pub bad : ok ≡ false → NoBuild c
-
--- every entry got a place, or there is no arrangement
-pub record SettlesAll (c : Pairs) (put : List ℕ) (put′ : List ℕ) (ok : Bool) : Type 0 where
-  pub good : ok ≡ true → Arranged c (of put′) × Agrees c (of put) (of put′)
-  pub bad : ok ≡ false → NoBuild c

@@ -1,1 +1,2 @@
+-- `Forcing` is what places with one entry force.
 pub mod Forcing

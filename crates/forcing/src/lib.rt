@@ -1,15 +1,13 @@
-// What a pair card forces before any choice, and what is left to settle after all of them. A place with one entry left takes it; this spares
-// time, and nothing else rests on it. At the end each entry that has no place yet gets one. The `pub` functions have a `requires`: their
-// caller has admitted the lists and made the tables.
+// What a pair card forces before any choice: a place with one entry left takes it, and so on. This spares time, and nothing else rests on
+// it. The function `root` has a `requires`: its caller has admitted the lists and made the tables.
 ghost use mathlib.Core.Path.{_≡_};
 ghost use mathlib.Core.Bool.{true};
 ghost use mathlib.Core.Logic.{_⊎_};
 ghost use Prim.Native.Nat.{ℕ, _+_, _*_, _≤_, _<_};
 ghost use lib.ListN.{length, replicate};
-ghost use Rattle.pairs.specs.Chosen.{Closed};
 ghost use Rattle.following.specs.Following.{pairsOf, of, Card, Links, Ready};
 ghost use Rattle.following.specs.Common.{Common};
-ghost use Rattle.forcing.specs.Forcing.{keyed, Root, Roots, JoinedEntry, Settles, SettlesAll};
+ghost use Rattle.forcing.specs.Forcing.{keyed, Root, Roots, JoinedEntry};
 use following::Step;
 
 // Puts v everywhere.
@@ -32,7 +30,10 @@ pub struct Entries {
 // The entries s, with e if it can still come to stand at t.
 fn also_entry(put: &[usize], e: usize, t: usize, s: Entries) -> Entries
     requires { ⌜ e < length (now put) ⌝ }
-    ensures { λ r. ⌜ ((((length (now (put .entry)) ≤ of (now (put .entry)) e) ⊎ (of (now (put .entry)) e ≡ t)) → ⊥) × (r .one ≡ s .one) × (r .many ≡ s .many)) ⊎ JoinedEntry (s .one) (s .many) e (r .one) (r .many) ⌝ }
+    ensures { λ r. ⌜
+        ((((length (now (put .entry)) ≤ of (now (put .entry)) e) ⊎ (of (now (put .entry)) e ≡ t)) → ⊥) × (r .one ≡ s .one) × (r .many ≡ s .many))
+        ⊎ JoinedEntry (s .one) (s .many) e (r .one) (r .many)
+        ⌝ }
 {
     if following::possible(put, e, t) {
         if s.many == 0 {
@@ -59,7 +60,12 @@ fn entries_at(
     put: &[usize],
     t: usize,
 ) -> Entries
-    requires { ⌜ (t < length (now word)) × (length (now put) ≡ length (now word)) × Card (now at) (now word) cut × Links (now at) (now word) (now last) (now prev) ⌝ }
+    requires { ⌜
+        (t < length (now word))
+        × (length (now put) ≡ length (now word))
+        × Card (now at) (now word) cut
+        × Links (now at) (now word) (now last) (now prev)
+        ⌝ }
     ensures { λ r. ⌜ Common (keyed (pairsOf (now (at .entry)) (now (word .entry)) cut)) (of (now (put .entry))) t 0 (r .one) (r .many) ⌝ }
 {
     let mut s = Entries { one: 0, many: 0 };
@@ -103,7 +109,7 @@ fn force(
 {
     let s = entries_at(at, word, cut, last, prev, put, t);
     if s.many == 0 {
-        return Step { n: n, ok: false };
+        return Step { n, ok: false };
     }
     if s.many == 1 {
         let e = s.one;
@@ -115,7 +121,7 @@ fn force(
             }
         }
     }
-    Step { n: n, ok: true }
+    Step { n, ok: true }
 }
 
 // One entry fewer for place t: whether one is left. Only a hint: nothing rests on the counts.
@@ -176,7 +182,7 @@ fn force_if(
     if few {
         return force(at, word, cut, last, prev, put, trail, n, t);
     }
-    Step { n: n, ok: true }
+    Step { n, ok: true }
 }
 
 // Forces the places with one entry.
@@ -270,64 +276,4 @@ pub fn root(
         return spread(at, word, cut, last, prev, put, trail, a.n, count);
     }
     a
-}
-
-// Gives entry e a place, with all that this forces, whichever will do.
-fn settle(
-    at: &[usize],
-    word: &[u32],
-    cut: u32,
-    last: &[usize],
-    prev: &[usize],
-    put: &mut [usize],
-    trail: &mut [usize],
-    n: usize,
-    e: usize,
-) -> Step
-    requires { ⌜ Ready (now at) (now word) cut (now last) (now prev) (now put) (now trail) n ⌝ }
-    requires { ⌜ Closed (pairsOf (now at) (now word) cut) (of (now put)) ⌝ }
-    requires { ⌜ e < length (now word) ⌝ }
-    ensures { λ r. ⌜ Settles (pairsOf (now (at .entry)) (now (word .entry)) cut) (now (put .entry)) e (now (put .exit)) (now (trail .exit)) (r .n) (r .ok) ⌝ }
-{
-    if put[e] < word.len() {
-        return Step { n: n, ok: true };
-    }
-    let slot = 2 * e;
-    let one = at[slot];
-    let two = at[slot + 1];
-    let g = following::follow(at, word, cut, last, prev, put, trail, n, e, one);
-    if g.ok {
-        return g;
-    }
-    following::undo(put, trail, n, g.n);
-    following::follow(at, word, cut, last, prev, put, trail, n, e, two)
-}
-
-// Gives every entry a place, where that can be done.
-pub fn settle_all(
-    at: &[usize],
-    word: &[u32],
-    cut: u32,
-    last: &[usize],
-    prev: &[usize],
-    put: &mut [usize],
-    trail: &mut [usize],
-    n: usize,
-) -> bool
-    requires { ⌜ Ready (now at) (now word) cut (now last) (now prev) (now put) (now trail) n ⌝ }
-    requires { ⌜ Closed (pairsOf (now at) (now word) cut) (of (now put)) ⌝ }
-    ensures { λ r. ⌜ SettlesAll (pairsOf (now (at .entry)) (now (word .entry)) cut) (now (put .entry)) (now (put .exit)) r ⌝ }
-{
-    let mut far = n;
-    let mut e = 0;
-    while e < word.len() {
-        let g = settle(at, word, cut, last, prev, put, trail, far, e);
-        if g.ok {
-            far = g.n;
-            e += 1;
-        } else {
-            return false;
-        }
-    }
-    true
 }

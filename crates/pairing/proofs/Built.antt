@@ -1,22 +1,22 @@
 -- Laws of the whole build. No contract cites this file. Assumes nothing.
 use mathlib.Core.Path.{_≡_, refl, sym, ap, _∙_}
 use mathlib.Core.Bool.{Bool, true, false, true≢false}
-use mathlib.Core.List.{List, [], _∷_}
-use mathlib.Core.Logic.{_≢_, _⊎_, inl, inr, ⊎-elim, by-cases}
-use Prim.Native.Nat.{ℕ, zero, suc, _+_, _-_, _<_, _≤_}
+use mathlib.Core.List.{List}
+use mathlib.Core.Logic.{_≢_, by-cases}
+use Prim.Native.Nat.{ℕ, zero, suc, _-_, _<_}
 use native.Mathlib.Omega.{arith}
-use native.Mathlib.Decide.{ℕ-discrete, decLt}
-use lib.ListN.{length, getD, set, length-set, replicate, length-replicate, getD-replicate, List·getD-eq-default}
-use lib.Seq.{getD-set-same, getD-set-other}
+use native.Mathlib.Decide.{decLt}
+use lib.ListN.{length, replicate, length-replicate, getD-replicate, List·getD-eq-default}
 use borrow.Author.Tests.{le-ltb}
-use Rattle.pairs.specs.Arranged.{Pairs, Inside, Arranged}
-use Rattle.pairs.specs.Chosen.{Agrees, Closed, Chosen, Upto, Found}
+use Rattle.pairs.specs.Arranged.{Pairs}
+use Rattle.pairs.specs.Chosen.{Closed, Upto}
 use Rattle.following.specs.Following.{Trail, Card, Links, Ready, unplaced, of, pairsOf}
 use Rattle.pairs.specs.Chosen.{NoBuild}
-use Rattle.choosing.specs.Choosing.{Chooses, ChoosesAll}
-use Rattle.forcing.specs.Forcing.{SettlesAll, Root, Roots}
+use Rattle.choosing.specs.Choosing.{ChoosesAll}
+use Rattle.forcing.specs.Forcing.{Root, Roots}
+use Rattle.settling.specs.Settling.{SettlesAll}
 use Rattle.pairing.specs.Built.{Builds}
-use Rattle.pairs.proofs.Places.{upto-none, upto-more, found}
+use Rattle.pairs.proofs.Places.{upto-none, found}
 
 -- ---- the start: no entry has a place
 

@@ -2,24 +2,22 @@
 -- nothing.
 use mathlib.Core.Path.{_≡_, refl, sym, ap, _∙_}
 use mathlib.Core.Logic.{_⊎_, inl, inr, ⊎-map, ⊎-elim}
-use mathlib.Core.Bool.{Bool, true, cond}
-use mathlib.Core.List.{List, map}
-use Prim.Native.Nat.{ℕ, _+_, _*_, _-_, _/_, _%_, _^_, _<_}
+use mathlib.Core.Bool.{Bool, cond}
+use mathlib.Core.List.{List}
+use Prim.Native.Nat.{ℕ, _+_, _*_, _-_, _/_, _^_, _<_}
 use native.Mathlib.Omega.{arith}
 use lib.Dec.{eqb}
 use lib.ListN.{length, getD, length-map}
 use Rattle.answers.proofs.RowLaws.{length-row, map-row, row-at}
 use Rattle.entries.specs.declared.Entry.{Entry}
-use Rattle.entries.specs.declared.Slot.{Slot}
 use Rattle.entries.specs.declared.Places.the-variants.{One, Two}
-use Rattle.entries.specs.Entry.{allows, entryOf}
+use Rattle.entries.specs.Entry.{entryOf}
 use Rattle.entries.specs.Fault.{pair, noPlace}
 use Rattle.entries.specs.Slot.{slotFrom, entriesIn}
 use Rattle.entries.proofs.Allowed.{pair-entry, pair-below}
 use Rattle.entries.proofs.SlotLaws.{slot-from}
-use Rattle.sequence.specs.Arrangement.{overlaps}
 use Rattle.sequence.proofs.LetterLaws.{pow-pos, overlap-is, is-overlap}
-use Rattle.pairs.specs.Arranged.{Inside, Stands}
+use Rattle.pairs.specs.Arranged.{Stands}
 use Rattle.pairs.specs.Described.{Described}
 use Rattle.pairs.specs.Settling.{pairEntries}
 use Rattle.pairs.proofs.Told.{found-worded, found-tells, none-tells}

@@ -50,8 +50,14 @@ fn places(ones: &[u16], twos: &[u16], at: &mut [usize])
 
 // Makes the list of each place; last holds zeros.
 fn link(at: &[usize], last: &mut [usize], prev: &mut [usize])
-    requires { ⌜ ((x : ℕ) → x < length (now at) → of (now at) x < length (now last)) × (length (now prev) ≡ length (now at)) × ((t : ℕ) → t < length (now last) → of (now last) t ≡ 0) ⌝ }
-    ensures { λ _. ⌜ ((word : List ℕ) → length word ≡ length (now (last .entry)) → Links (now (at .entry)) word (now (last .exit)) (now (prev .exit))) ⌝ }
+    requires { ⌜
+        ((x : ℕ) → x < length (now at) → of (now at) x < length (now last))
+        × (length (now prev) ≡ length (now at))
+        × ((t : ℕ) → t < length (now last) → of (now last) t ≡ 0)
+        ⌝ }
+    ensures { λ _. ⌜
+        ((word : List ℕ) → length word ≡ length (now (last .entry)) → Links (now (at .entry)) word (now (last .exit)) (now (prev .exit)))
+        ⌝ }
 {
     let mut x = 0;
     while x < at.len() {
@@ -83,7 +89,7 @@ fn decide(
     if r.ok {
         let a = choosing::choose_all(at, word, cut, last, prev, put, trail, r.n, words);
         if a.ok {
-            if forcing::settle_all(at, word, cut, last, prev, put, trail, a.n) {
+            if settling::settle_all(at, word, cut, last, prev, put, trail, a.n) {
                 return Paired {
                     found: true,
                     choices: a.choices,
@@ -110,7 +116,14 @@ fn from_places(
     words: &mut [u32],
 ) -> Paired
     requires { ⌜ Card (now at) (now word) cut ⌝ }
-    requires { ⌜ (length (now last) ≡ length (now word)) × (length (now prev) ≡ length (now at)) × (length (now put) ≡ length (now word)) × (length (now trail) ≡ length (now word)) × (length (now words) ≡ length (now word)) × (length (now count) ≡ length (now word)) ⌝ }
+    requires { ⌜
+        (length (now last) ≡ length (now word))
+        × (length (now prev) ≡ length (now at))
+        × (length (now put) ≡ length (now word))
+        × (length (now trail) ≡ length (now word))
+        × (length (now words) ≡ length (now word))
+        × (length (now count) ≡ length (now word))
+        ⌝ }
     ensures { λ r. ⌜ Builds (pairsOf (now (at .entry)) (now (word .entry)) cut) (now (words .exit)) (r .choices) (r .found) ⌝ }
 {
     forcing::fill(last, 0);

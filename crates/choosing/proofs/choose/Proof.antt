@@ -1,20 +1,10 @@
 -- `choosing::choose` meets its contract: a law of proofs/Choosing.antt for each outcome. Assumes nothing.
-use mathlib.Core.Path.{_≡_, refl, sym, ap, _∙_}
-use mathlib.Core.Bool.{true, false}
-use mathlib.Core.Logic.{_⊎_, inl, inr, ⊎-elim}
-use Prim.Native.Nat.{ℕ, _+_, _-_, _/_, _<_, _≤_}
-use native.Mathlib.Omega.{arith}
-use lib.ListN.{length, getD, set, replicate, drop, length-set, length-replicate}
-use Rattle.choosing.proofs.Choosing.{choose-none, choose-one, choose-weighed-none, choose-kept, weighed-shape, weighed-closed}
+use Prim.Native.Nat.{_-_}
+use Rattle.choosing.proofs.Choosing.{choose-none, choose-one, choose-weighed-none, choose-kept}
 use Rattle.following.proofs.Forcing.{inside-of}
 use borrow.Author.Needs.{needs}
 use Rattle.choosing.proofs.choose.Statement.{statement}
 use Rattle.choosing.proofs.choose.Tie as tie
-use Rattle.choosing.proofs.choose.Reads as reads
-use Rattle.choosing.proofs.choose.Lts as lts
-use Rattle.choosing.proofs.keep_word.Reads as keep-word-reads
-use Rattle.choosing.proofs.weigh.Reads as weigh-reads
-use Rattle.choosing.proofs.words_at.Reads as words-at-reads
 
 abbrev start : tie.After-words-at → tie.Start
 start c = c .before .before .before .before .before .before .before .before
@@ -39,52 +29,42 @@ kept c = c .before .before .before .before .before
 abbrev some : tie.After-keep-word-arg2 → tie.Else3
 some c = c .before .before
 
--- src/lib.rt:450:9
 words-at-requires : tie.Need-words-at-requires
 words-at-requires c κs = search needs
 
--- src/lib.rt:452:9
 same-length : tie.Need-same-length
 same-length c = search needs
 
--- src/lib.rt:452:9
 returns : tie.Need-returns
 returns c =
     let a = c .before .before in
     let pre = start a .pre in
     choose-none (inside-of (pre .0 .card)) (pre .1 .0) (pre .0 .shape) (pre .1 .1) (a .words-at .ensures) (c .if1 .taken)
 
--- src/lib.rt:460:9
 same-length-2 : tie.Need-same-length-2
 same-length-2 c = search needs
 
--- src/lib.rt:460:9
 returns-2 : tie.Need-returns-2
 returns-2 c =
     let a = seen (c .before) in
     let pre = start a .pre in
     choose-one (inside-of (pre .0 .card)) (pre .1 .0) (pre .0 .shape) (pre .1 .1) (a .words-at .ensures) (c .if2 .taken)
 
--- src/lib.rt:467:9
 weigh-requires : tie.Need-weigh-requires
 weigh-requires c κs = search needs
 
--- src/lib.rt:469:9
 same-length-3 : tie.Need-same-length-3
 same-length-3 c = search needs
 
--- src/lib.rt:469:9
 same-length-4 : tie.Need-same-length-4
 same-length-4 c = search needs
 
--- src/lib.rt:469:9
 returns-3 : tie.Need-returns-3
 returns-3 c =
     let b = weighed (c .before) in
     let pre = from-weighed b .pre in
     choose-weighed-none (inside-of (pre .0 .card)) (pre .1 .0) (pre .0 .shape) (pre .1 .1) (b .weigh .ensures) (c .if3 .taken)
 
--- src/lib.rt:476:9
 keep-word-requires : tie.Need-keep-word-requires
 keep-word-requires c κs =
     let b = weighed (some c .before) in
@@ -92,19 +72,15 @@ keep-word-requires c κs =
     let g = b .weigh .ensures in
     (record { card = pre .0 .card; links = pre .0 .links; shape = rw (g .0) (g .1) }, (rw (g .0) (pre .1 .0), pre .1 .1))
 
--- src/lib.rt:481:15
 sub-t24 : tie.Need-sub-t24
 sub-t24 c = search needs
 
--- src/lib.rt:444:1
 same-length-5 : tie.Need-same-length-5
 same-length-5 c = search needs
 
--- src/lib.rt:444:1
 same-length-6 : tie.Need-same-length-6
 same-length-6 c = search needs
 
--- src/lib.rt:444:1
 returns-4 : tie.Need-returns-4
 returns-4 c =
     let k = kept c in

@@ -1,20 +1,14 @@
 -- `choosing::keep_word` meets its contract. The loop goes through the list of t (`Listing`), with `Dropping` of proofs/Choosing.antt.
 -- Assumes nothing.
-use mathlib.Core.Path.{_≡_, refl, sym, ap, _∙_}
-use mathlib.Core.Bool.{true, false}
-use mathlib.Core.Logic.{_⊎_, inl, inr, ⊎-elim}
-use Prim.Native.Nat.{ℕ, _+_, _-_, _/_, _<_, _≤_}
+use mathlib.Core.Path.{sym, _∙_}
+use Prim.Native.Nat.{_-_}
 use native.Mathlib.Omega.{arith}
-use lib.ListN.{length, getD}
 use borrow.Author.Needs.{needs}
 use Rattle.following.specs.Following.{pairsOf}
 use Rattle.following.proofs.Slots.{Listing, list-start, list-none, list-entry, list-stands, list-more, list-less, list-next}
 use Rattle.choosing.proofs.Choosing.{Dropping, dropping-start, dropping-more, dropping-stops, dropping-end}
 use Rattle.choosing.proofs.keep_word.Statement.{statement}
 use Rattle.choosing.proofs.keep_word.Tie as tie
-use Rattle.choosing.proofs.keep_word.Reads as reads
-use Rattle.choosing.proofs.keep_word.Lts as lts
-use Rattle.choosing.proofs.send_off.Reads as send-off-reads
 
 abbrev Inv-loop : tie.InvT-loop
 Inv-loop at word cut last prev put₀ trail₀ n t w far₀ k₀ put trail far k = Listing at t k × Dropping (pairsOf at word cut) put₀ t w k put trail far
@@ -34,25 +28,20 @@ turn c = c .before .before
 abbrev called : tie.After-slice-known4 Inv-loop μ-loop → tie.After-send-off Inv-loop μ-loop
 called c = c .before .before .before .before
 
--- src/lib.rt:400:17
 mul-k : tie.Need-mul-k Inv-loop μ-loop
 mul-k c = search needs
 
--- src/lib.rt:400:17
 shared-slice-read-k : tie.Need-shared-slice-read-k Inv-loop μ-loop
 shared-slice-read-k c = let pre = entered c .pre in omega (arith, pre .0 .links .lasts, pre .1 .1)
 
--- src/lib.rt:401:5
 loop-holds : tie.Need-loop-holds Inv-loop μ-loop
 loop-holds c =
     let pre = entered c .pre in
     (list-start (pre .0 .card) (pre .0 .links) (pre .1 .1), dropping-start (pre .1 .0) (pre .0 .shape) (list-none (pre .0 .card) (pre .0 .links) (pre .1 .1)))
 
--- src/lib.rt:402:17
 sub-x : tie.Need-sub-x Inv-loop μ-loop
 sub-x c = search needs
 
--- src/lib.rt:403:13
 send-off-requires : tie.Need-send-off-requires Inv-loop μ-loop
 send-off-requires c κs =
     let t = turn c in
@@ -62,25 +51,21 @@ send-off-requires c κs =
     let there = list-stands (pre .0 .card) (pre .0 .links) (pre .1 .1) (inv .0) (t .loop-test .taken) in
     (record { card = pre .0 .card; links = pre .0 .links; shape = inv .1 .shape }, (inv .1 .cleared .closed, (low, pre .1 .1, there)))
 
--- src/lib.rt:406:17
 mul-k-2 : tie.Need-mul-k-2 Inv-loop μ-loop
 mul-k-2 c = search needs
 
--- src/lib.rt:406:17
 shared-slice-read-k-2 : tie.Need-shared-slice-read-k-2 Inv-loop μ-loop
 shared-slice-read-k-2 c =
     let t = turn (called (c .before .before) .before) in
     let links = start (t .before) .pre .0 .links in
     omega (arith, links .prevs, t .before .loop .inv .0 .low, t .loop-test .taken)
 
--- src/lib.rt:401:5
 loop-less : tie.Need-loop-less Inv-loop μ-loop
 loop-less c =
     let t = turn (called (c .before .before) .before) in
     let pre = start (t .before) .pre in
     list-less (pre .0 .card) (pre .0 .links) (pre .1 .1) (t .before .loop .inv .0) (t .loop-test .taken)
 
--- src/lib.rt:401:5
 loop-again : tie.Need-loop-again Inv-loop μ-loop
 loop-again c =
     let d = called (c .before .before) in
@@ -93,19 +78,16 @@ loop-again c =
           (list-next (pre .0 .card) (pre .0 .links) (pre .1 .1) (inv .0) more) (inv .1) (d .send-off .ensures) (c .before .if1 .taken),
     )
 
--- src/lib.rt:408:13
 same-length : tie.Need-same-length Inv-loop μ-loop
 same-length c =
     let d = called (c .before) in
     d .send-off .ensures .shape .puts ∙ sym (start (turn (d .before) .before) .pre .0 .shape .puts)
 
--- src/lib.rt:408:13
 same-length-2 : tie.Need-same-length-2 Inv-loop μ-loop
 same-length-2 c =
     let d = called (c .before) in
     d .send-off .ensures .shape .trails ∙ sym (start (turn (d .before) .before) .pre .0 .shape .trails)
 
--- src/lib.rt:408:13
 returns : tie.Need-returns Inv-loop μ-loop
 returns c =
     let d = called (c .before) in
@@ -116,15 +98,12 @@ returns c =
     dropping-stops (pre .1 .1) (list-entry (pre .0 .card) (pre .0 .links) (pre .1 .1) (inv .0) more)
     (list-next (pre .0 .card) (pre .0 .links) (pre .1 .1) (inv .0) more) (inv .1) (d .send-off .ensures) (c .if1 .left)
 
--- src/lib.rt:393:1
 same-length-3 : tie.Need-same-length-3 Inv-loop μ-loop
 same-length-3 c = c .before .loop .inv .1 .shape .puts ∙ sym (start (c .before) .pre .0 .shape .puts)
 
--- src/lib.rt:393:1
 same-length-4 : tie.Need-same-length-4 Inv-loop μ-loop
 same-length-4 c = c .before .loop .inv .1 .shape .trails ∙ sym (start (c .before) .pre .0 .shape .trails)
 
--- src/lib.rt:393:1
 returns-2 : tie.Need-returns-2 Inv-loop μ-loop
 returns-2 c = dropping-end (c .loop-test .left) (c .before .loop .inv .1)
 

@@ -1,20 +1,14 @@
 -- `choosing::send_off` meets its contract: a law of proofs/Choosing.antt for each outcome. Assumes nothing.
-use mathlib.Core.Path.{_≡_, refl, sym, ap, _∙_}
-use mathlib.Core.Bool.{true, false}
-use mathlib.Core.Logic.{_⊎_, inl, inr, ⊎-elim}
-use Prim.Native.Nat.{ℕ, _+_, _-_, _/_, _<_, _≤_}
+use mathlib.Core.Path.{sym, _∙_}
+use mathlib.Core.Logic.{_⊎_, ⊎-elim}
+use Prim.Native.Nat.{_-_}
 use native.Mathlib.Omega.{arith}
-use lib.ListN.{length, getD}
 use Rattle.following.specs.Following.{pairsOf}
 use Rattle.following.proofs.Forcing.{other-asks, other-inside, other-stands}
 use Rattle.choosing.proofs.Choosing.{drops-still, drops-not, drops-follow, only-there}
 use borrow.Author.Needs.{needs}
 use Rattle.choosing.proofs.send_off.Statement.{statement}
 use Rattle.choosing.proofs.send_off.Tie as tie
-use Rattle.choosing.proofs.send_off.Reads as reads
-use Rattle.choosing.proofs.send_off.Lts as lts
-use Rattle.following.proofs.follow.Reads as follow-reads
-use Rattle.following.proofs.other.Reads as other-reads
 
 abbrev start : tie.After-shared-slice-known5 → tie.Start
 start c = c .before .before .before .before .before .before .before
@@ -27,45 +21,36 @@ unlike c = start (c .before)
 abbrev free : tie.Else3 → tie.Else1
 free c = c .before .before .before
 
--- src/lib.rt:363:8
 mul-if1 : tie.Need-mul-if1
 mul-if1 c = search needs
 
--- src/lib.rt:363:8
 shared-slice-read-if1 : tie.Need-shared-slice-read-if1
 shared-slice-read-if1 c = search needs
 
--- src/lib.rt:364:9
 returns : tie.Need-returns
 returns c = let pre = start (c .before) .pre in drops-still (pre .0 .shape) (pre .1 .1 .0) (pre .1 .0) (λ _. c .if1 .taken)
 
--- src/lib.rt:369:13
 mul-p : tie.Need-mul-p
 mul-p c = search needs
 
--- src/lib.rt:369:13
 slice-read-p : tie.Need-slice-read-p
 slice-read-p c = search needs
 
--- src/lib.rt:371:9
 returns-2 : tie.Need-returns-2
 returns-2 c =
     let b = c .before .before in
     let pre = unlike b .pre in
     drops-not (pre .0 .shape) (pre .1 .1 .0) (b .if1 .left) (λ σ a g. g _ (pre .1 .1 .0) (rw (c .if2 .taken) (pre .1 .1 .1)) ∙ c .if2 .taken)
 
--- src/lib.rt:377:9
 returns-3 : tie.Need-returns-3
 returns-3 c =
     let b = c .before .before .before in
     let pre = unlike b .pre in
     drops-still (pre .0 .shape) (pre .1 .1 .0) (pre .1 .0) (λ x. ⊎-elim (λ y. absurd (omega (arith, y, c .if3 .taken))) (λ y. absurd (c .before .if2 .left y)) (x .1))
 
--- src/lib.rt:382:9
 other-requires : tie.Need-other-requires
 other-requires c κs = let pre = unlike (free c) .pre in other-asks (pre .0 .card) (pre .1 .1 .0) (pre .1 .1 .2)
 
--- src/lib.rt:384:9
 returns-4 : tie.Need-returns-4
 returns-4 c =
     let b = free (c .before .before) in
@@ -73,7 +58,6 @@ returns-4 c =
     drops-not (pre .0 .shape) (pre .1 .1 .0) (b .if1 .left)
     (only-there (pre .0 .shape) (pre .1 .1 .0) (b .if1 .left) (pre .1 .1 .2) (sym (c .before .other .ensures) ∙ c .if4 .taken))
 
--- src/lib.rt:389:5
 follow-requires : tie.Need-follow-requires
 follow-requires c κs =
     let d = c .before .before in
@@ -82,15 +66,12 @@ follow-requires c κs =
     let pre = unlike b .pre in
     (pre .0, (pre .1 .0, (pre .1 .1 .0, o .before .if3 .left, rw (o .other .ensures) (other-inside (pre .0 .card) (pre .1 .1 .0) (pre .1 .1 .2)), rw (o .other .ensures) (other-stands (pairsOf (unlike b .args .at .now) (unlike b .args .word .now) (unlike b .args .cut)) (pre .1 .1 .2)))))
 
--- src/lib.rt:357:1
 same-length : tie.Need-same-length
 same-length c = search needs
 
--- src/lib.rt:357:1
 same-length-2 : tie.Need-same-length-2
 same-length-2 c = search needs
 
--- src/lib.rt:357:1
 returns-5 : tie.Need-returns-5
 returns-5 c =
     let f = c .before .before .before .before in

@@ -1,59 +1,42 @@
 -- `choosing::tried` meets its contract. Assumes nothing.
-use mathlib.Core.Path.{_≡_, refl, sym, ap, _∙_}
-use mathlib.Core.Bool.{true, false}
-use mathlib.Core.Logic.{_⊎_, inl, inr, ⊎-elim}
-use Prim.Native.Nat.{ℕ, _+_, _-_, _/_, _<_, _≤_}
-use native.Mathlib.Omega.{arith}
-use lib.ListN.{length, getD}
+use mathlib.Core.Path.{refl}
+use mathlib.Core.Logic.{inl, inr}
+use Prim.Native.Nat.{_-_}
 use Rattle.choosing.proofs.Choosing.{tries-of}
 use borrow.Author.Needs.{needs}
 use Rattle.choosing.proofs.tried.Statement.{statement}
 use Rattle.choosing.proofs.tried.Tie as tie
-use Rattle.choosing.proofs.tried.Reads as reads
-use Rattle.choosing.proofs.tried.Lts as lts
-use Rattle.choosing.proofs.with_word.Reads as with-word-reads
-use Rattle.choosing.proofs.works.Reads as works-reads
 
 abbrev called : tie.After-slice-known4 → tie.After-works
 called c = c .before .before .before .before
 
--- src/lib.rt:348:8
 works-requires : tie.Need-works-requires
 works-requires c κs = search needs
 
--- src/lib.rt:349:29
 mul-with-word : tie.Need-mul-with-word
 mul-with-word c = search needs
 
--- src/lib.rt:349:29
 shared-slice-read-with-word : tie.Need-shared-slice-read-with-word
 shared-slice-read-with-word c = search needs
 
--- src/lib.rt:349:9
 with-word-requires : tie.Need-with-word-requires
 with-word-requires c κs = search needs
 
--- src/lib.rt:349:9
 same-length : tie.Need-same-length
 same-length c = search needs
 
--- src/lib.rt:349:9
 same-length-2 : tie.Need-same-length-2
 same-length-2 c = search needs
 
--- src/lib.rt:349:9
 returns : tie.Need-returns
 returns c = let b = c .before .before in tries-of (called (b .before) .works .ensures) (inr (b .if1 .taken, c .with-word .ensures))
 
--- src/lib.rt:342:1
 same-length-3 : tie.Need-same-length-3
 same-length-3 c = search needs
 
--- src/lib.rt:342:1
 same-length-4 : tie.Need-same-length-4
 same-length-4 c = search needs
 
--- src/lib.rt:342:1
 returns-2 : tie.Need-returns-2
 returns-2 c = tries-of (called (c .before) .works .ensures) (inl (c .if1 .left, refl, refl))
 

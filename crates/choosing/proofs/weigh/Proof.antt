@@ -1,20 +1,13 @@
 -- `choosing::weigh` meets its contract. The loop goes through the list of t (`Listing`). Assumes nothing.
-use mathlib.Core.Path.{_≡_, refl, sym, ap, _∙_}
-use mathlib.Core.Bool.{true, false}
-use mathlib.Core.Logic.{_⊎_, inl, inr, ⊎-elim}
-use Prim.Native.Nat.{ℕ, _+_, _-_, _/_, _<_, _≤_}
+use mathlib.Core.Path.{refl, sym, _∙_}
+use Prim.Native.Nat.{_-_}
 use native.Mathlib.Omega.{arith}
-use lib.ListN.{length, getD}
 use borrow.Author.Needs.{needs}
-use Rattle.following.specs.Following.{pairsOf, of}
-use Rattle.following.specs.Common.{Common}
+use Rattle.following.specs.Following.{pairsOf}
 use Rattle.following.proofs.Slots.{Listing, list-start, list-none, list-entry, list-stands, list-more, list-less, list-next}
 use Rattle.choosing.proofs.Choosing.{Weighing, weighed-start, weighing-more, weighing-end}
 use Rattle.choosing.proofs.weigh.Statement.{statement}
 use Rattle.choosing.proofs.weigh.Tie as tie
-use Rattle.choosing.proofs.weigh.Reads as reads
-use Rattle.choosing.proofs.weigh.Lts as lts
-use Rattle.choosing.proofs.tried.Reads as tried-reads
 
 abbrev Inv-loop : tie.InvT-loop
 Inv-loop at word cut last prev put₀ trail₀ n t s₀ k₀ put trail s k = Listing at t k × Weighing (pairsOf at word cut) put₀ n t k (s .least) (s .many) put trail
@@ -34,15 +27,12 @@ turn c = c .before .before
 abbrev called : tie.After-slice-known4 Inv-loop μ-loop → tie.After-tried Inv-loop μ-loop
 called c = c .before .before .before .before
 
--- src/lib.rt:365:17
 mul-k : tie.Need-mul-k Inv-loop μ-loop
 mul-k c = search needs
 
--- src/lib.rt:365:17
 shared-slice-read-k : tie.Need-shared-slice-read-k Inv-loop μ-loop
 shared-slice-read-k c = let pre = entered c .pre in omega (arith, pre .0 .links .lasts, pre .1 .1)
 
--- src/lib.rt:366:5
 loop-holds : tie.Need-loop-holds Inv-loop μ-loop
 loop-holds c =
     let pre = entered c .pre in (
@@ -50,11 +40,9 @@ loop-holds c =
       record { same = refl; shape = pre .0 .shape; weighed = weighed-start (list-none (pre .0 .card) (pre .0 .links) (pre .1 .1)) },
     )
 
--- src/lib.rt:367:17
 sub-x : tie.Need-sub-x Inv-loop μ-loop
 sub-x c = search needs
 
--- src/lib.rt:368:9
 tried-requires : tie.Need-tried-requires Inv-loop μ-loop
 tried-requires c κs =
     let t = turn c in
@@ -64,24 +52,20 @@ tried-requires c κs =
     let there = list-stands (pre .0 .card) (pre .0 .links) (pre .1 .1) (inv .0) (t .loop-test .taken) in
     (record { card = pre .0 .card; links = pre .0 .links; shape = inv .1 .shape }, (rw (inv .1 .same) (pre .1 .0), (low, pre .1 .1, there)))
 
--- src/lib.rt:369:13
 mul-k-2 : tie.Need-mul-k-2 Inv-loop μ-loop
 mul-k-2 c = search needs
 
--- src/lib.rt:369:13
 shared-slice-read-k-2 : tie.Need-shared-slice-read-k-2 Inv-loop μ-loop
 shared-slice-read-k-2 c =
     let t = turn (called (c .before) .before) in
     omega (arith, start (t .before) .pre .0 .links .prevs, t .before .loop .inv .0 .low, t .loop-test .taken)
 
--- src/lib.rt:366:5
 loop-less : tie.Need-loop-less Inv-loop μ-loop
 loop-less c =
     let t = turn (called (c .before) .before) in
     let pre = start (t .before) .pre in
     list-less (pre .0 .card) (pre .0 .links) (pre .1 .1) (t .before .loop .inv .0) (t .loop-test .taken)
 
--- src/lib.rt:366:5
 loop-again : tie.Need-loop-again Inv-loop μ-loop
 loop-again c =
     let d = called (c .before) in
@@ -94,15 +78,12 @@ loop-again c =
           (list-next (pre .0 .card) (pre .0 .links) (pre .1 .1) (inv .0) more) (inv .1) (d .tried .ensures),
     )
 
--- src/lib.rt:355:1
 same-length : tie.Need-same-length Inv-loop μ-loop
 same-length c = c .before .loop .inv .1 .shape .puts ∙ sym (start (c .before) .pre .0 .shape .puts)
 
--- src/lib.rt:355:1
 same-length-2 : tie.Need-same-length-2 Inv-loop μ-loop
 same-length-2 c = c .before .loop .inv .1 .shape .trails ∙ sym (start (c .before) .pre .0 .shape .trails)
 
--- src/lib.rt:355:1
 returns : tie.Need-returns Inv-loop μ-loop
 returns c = weighing-end (c .loop-test .left) (c .before .loop .inv .1)
 

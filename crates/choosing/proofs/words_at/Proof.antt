@@ -1,21 +1,14 @@
 -- `choosing::words_at` meets its contract. The loop goes through the list of t (`Listing`). Assumes nothing.
-use mathlib.Core.Path.{_≡_, refl, sym, ap, _∙_}
-use mathlib.Core.Bool.{true, false}
-use mathlib.Core.Logic.{_⊎_, inl, inr, ⊎-elim}
-use Prim.Native.Nat.{ℕ, _+_, _-_, _/_, _<_, _≤_}
+use Prim.Native.Nat.{_-_}
 use native.Mathlib.Omega.{arith}
-use lib.ListN.{length, getD}
 use borrow.Author.Needs.{needs}
 use Rattle.following.specs.Following.{pairsOf, of}
 use Rattle.following.specs.Common.{Common}
-use Rattle.following.proofs.Slots.{Listing, list-start, list-none, list-entry, list-stands, list-more, list-less, list-next}
+use Rattle.following.proofs.Slots.{Listing, list-start, list-none, list-entry, list-more, list-less, list-next}
 use Rattle.choosing.proofs.Choosing.{common-also}
 use Rattle.following.proofs.CommonLaws.{common-start, common-end}
 use Rattle.choosing.proofs.words_at.Statement.{statement}
 use Rattle.choosing.proofs.words_at.Tie as tie
-use Rattle.choosing.proofs.words_at.Reads as reads
-use Rattle.choosing.proofs.words_at.Lts as lts
-use Rattle.choosing.proofs.also.Reads as also-reads
 
 abbrev Inv-loop : tie.InvT-loop
 Inv-loop at word cut last prev put t s₀ k₀ s k = Listing at t k × Common (pairsOf at word cut) (of put) t k (s .least) (s .many)
@@ -29,48 +22,39 @@ entered c = c .before .before .before .before .before .before
 abbrev start : tie.At-loop Inv-loop μ-loop → tie.Start Inv-loop μ-loop
 start c = entered (c .before)
 
--- src/lib.rt:315:17
 mul-k : tie.Need-mul-k Inv-loop μ-loop
 mul-k c = search needs
 
--- src/lib.rt:315:17
 shared-slice-read-k : tie.Need-shared-slice-read-k Inv-loop μ-loop
 shared-slice-read-k c = let pre = entered c .pre in omega (arith, pre .3 .lasts, pre .0)
 
--- src/lib.rt:316:5
 loop-holds : tie.Need-loop-holds Inv-loop μ-loop
 loop-holds c =
     let pre = entered c .pre in
     (list-start (pre .2) (pre .3) (pre .0), common-start (list-none (pre .2) (pre .3) (pre .0)))
 
--- src/lib.rt:317:17
 sub-x : tie.Need-sub-x Inv-loop μ-loop
 sub-x c = search needs
 
--- src/lib.rt:318:9
 also-requires : tie.Need-also-requires Inv-loop μ-loop
 also-requires c κs =
     let pre = start (c .before) .pre in
     (list-entry (pre .2) (pre .3) (pre .0) (c .before .loop .inv .0) (c .loop-test .taken), pre .1)
 
--- src/lib.rt:319:13
 mul-k-2 : tie.Need-mul-k-2 Inv-loop μ-loop
 mul-k-2 c = search needs
 
--- src/lib.rt:319:13
 shared-slice-read-k-2 : tie.Need-shared-slice-read-k-2 Inv-loop μ-loop
 shared-slice-read-k-2 c =
     let t = c .before .before in
     omega (arith, start (t .before) .pre .3 .prevs, t .before .loop .inv .0 .low, t .loop-test .taken)
 
--- src/lib.rt:316:5
 loop-less : tie.Need-loop-less Inv-loop μ-loop
 loop-less c =
     let t = c .before .before in
     let pre = start (t .before) .pre in
     list-less (pre .2) (pre .3) (pre .0) (t .before .loop .inv .0) (t .loop-test .taken)
 
--- src/lib.rt:316:5
 loop-again : tie.Need-loop-again Inv-loop μ-loop
 loop-again c =
     let t = c .before .before in
@@ -82,7 +66,6 @@ loop-again c =
           (list-next (pre .2) (pre .3) (pre .0) (inv .0) more) (inv .1) (c .before .also .ensures),
     )
 
--- src/lib.rt:307:1
 returns : tie.Need-returns Inv-loop μ-loop
 returns c = common-end (c .loop-test .left) (c .before .loop .inv .1)
 

@@ -1,15 +1,10 @@
 -- `following::attempt` meets its contract: following, then undoing (`attempted`, proofs/Forcing.antt). Assumes nothing.
-use mathlib.Core.Path.{_≡_, refl, sym, ap, _∙_}
-use Prim.Native.Nat.{ℕ, _+_, _-_, _<_, _≤_}
+use Prim.Native.Nat.{_-_}
 use native.Mathlib.Omega.{arith}
 use Rattle.following.proofs.Forcing.{attempted}
 use borrow.Author.Needs.{needs}
 use Rattle.following.proofs.attempt.Statement.{statement}
 use Rattle.following.proofs.attempt.Tie as tie
-use Rattle.following.proofs.attempt.Reads as reads
-use Rattle.following.proofs.attempt.Lts as lts
-use Rattle.following.proofs.follow.Reads as follow-reads
-use Rattle.following.proofs.undo.Reads as undo-reads
 
 -- after the first call
 abbrev followed : tie.After-undo-arg2 → tie.After-follow
@@ -18,25 +13,20 @@ followed c = c .before .before .before .before .before .before
 abbrev start : tie.After-follow → tie.Start
 start c = c .before .before .before .before .before .before .before .before .before
 
--- src/lib.rt:202:9
 follow-requires : tie.Need-follow-requires
 follow-requires c κs = search needs
 
--- src/lib.rt:203:5
 undo-requires : tie.Need-undo-requires
 undo-requires c κs =
     let shape = followed c .follow .ensures .shape in
     (omega (arith, shape .count, shape .trails), λ i h. rw (shape .puts) (shape .inside i h))
 
--- src/lib.rt:196:1
 same-length : tie.Need-same-length
 same-length c = search needs
 
--- src/lib.rt:196:1
 same-length-2 : tie.Need-same-length-2
 same-length-2 c = search needs
 
--- src/lib.rt:196:1
 returns : tie.Need-returns
 returns c =
     let u = c .before .before in

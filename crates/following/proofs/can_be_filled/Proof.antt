@@ -1,15 +1,11 @@
 -- `following::can_be_filled` meets its contract. The loop goes through the list of q; the entries behind it cannot come to stand there
 -- (`NoneFrom`). Assumes nothing.
-use mathlib.Core.Path.{_≡_, sym}
 use mathlib.Core.Bool.{true≢false}
 use native.Mathlib.Omega.{arith}
 use borrow.Author.Needs.{needs}
 use Rattle.following.proofs.Slots.{NoneFrom, none-start, none-more, none-end, list-entry, list-less}
 use Rattle.following.proofs.can_be_filled.Statement.{statement}
 use Rattle.following.proofs.can_be_filled.Tie as tie
-use Rattle.following.proofs.can_be_filled.Reads as reads
-use Rattle.following.proofs.can_be_filled.Lts as lts
-use Rattle.following.proofs.possible.Reads as possible-reads
 
 abbrev Inv-loop : tie.InvT-loop
 Inv-loop at word cut last prev put q k₀ k = NoneFrom at word cut put q k
@@ -27,50 +23,40 @@ start c = entered (c .before)
 abbrev turn : tie.After-shared-slice-known7 Inv-loop μ-loop → tie.In-loop Inv-loop μ-loop
 turn c = c .before .before .before
 
--- src/lib.rt:142:17
 mul-k : tie.Need-mul-k Inv-loop μ-loop
 mul-k c = search needs
 
--- src/lib.rt:142:17
 shared-slice-read-k : tie.Need-shared-slice-read-k Inv-loop μ-loop
 shared-slice-read-k c = let pre = entered c .pre in omega (arith, pre .3 .lasts, pre .0)
 
--- src/lib.rt:143:5
 loop-holds : tie.Need-loop-holds Inv-loop μ-loop
 loop-holds c = let pre = entered c .pre in none-start (pre .2) (pre .3) (pre .0)
 
--- src/lib.rt:144:17
 sub-x : tie.Need-sub-x Inv-loop μ-loop
 sub-x c = search needs
 
--- src/lib.rt:145:12
 possible-requires : tie.Need-possible-requires Inv-loop μ-loop
 possible-requires c κs =
     let pre = start (c .before) .pre in
     rw (pre .1) (list-entry (pre .2) (pre .3) (pre .0) (c .before .loop .inv .listing) (c .loop-test .taken))
 
--- src/lib.rt:146:13
 returns : tie.Need-returns Inv-loop μ-loop
 returns c h = absurd (true≢false h)
 
--- src/lib.rt:148:13
 mul-k-2 : tie.Need-mul-k-2 Inv-loop μ-loop
 mul-k-2 c = search needs
 
--- src/lib.rt:148:13
 shared-slice-read-k-2 : tie.Need-shared-slice-read-k-2 Inv-loop μ-loop
 shared-slice-read-k-2 c =
     let t = turn c in
     omega (arith, start (t .before) .pre .3 .prevs, t .before .loop .inv .listing .low, t .loop-test .taken)
 
--- src/lib.rt:143:5
 loop-less : tie.Need-loop-less Inv-loop μ-loop
 loop-less c =
     let t = turn c in
     let pre = start (t .before) .pre in
     list-less (pre .2) (pre .3) (pre .0) (t .before .loop .inv .listing) (t .loop-test .taken)
 
--- src/lib.rt:143:5
 loop-again : tie.Need-loop-again Inv-loop μ-loop
 loop-again c =
     let t = turn c in
@@ -78,7 +64,6 @@ loop-again c =
     let not = c .before .before .possible .ensures .no (c .before .if1 .left) in
     none-more (pre .2) (pre .3) (pre .0) (t .before .loop .inv) (t .loop-test .taken) (λ y. not (rw (pre .1) (y .1)))
 
--- src/lib.rt:130:1
 returns-2 : tie.Need-returns-2 Inv-loop μ-loop
 returns-2 c h = none-end (c .before .loop .inv) (c .loop-test .left)
 

@@ -1,17 +1,13 @@
 -- `following::clear` meets its contract. The loop's invariant: e is rid of the entries of q from slot k on (`Clearing`, proofs/Forcing.antt).
 -- The measure is k. Assumes nothing.
-use mathlib.Core.Path.{_≡_, refl, sym, ap, _∙_}
-use mathlib.Core.Logic.{_⊎_, inl, inr, ⊎-elim}
-use Prim.Native.Nat.{ℕ, _+_, _-_, _*_, _<_, _≤_}
+use mathlib.Core.Path.{sym, _∙_}
+use Prim.Native.Nat.{_-_, _<_}
 use native.Mathlib.Omega.{arith}
 use lib.ListN.{length, getD}
 use borrow.Author.Needs.{needs}
 use Rattle.following.proofs.Forcing.{Clearing, clear-start, clear-more, entry-low, entry-stands, clear-end, went-stops, went-ok}
 use Rattle.following.proofs.clear.Statement.{statement}
 use Rattle.following.proofs.clear.Tie as tie
-use Rattle.following.proofs.clear.Reads as reads
-use Rattle.following.proofs.clear.Lts as lts
-use Rattle.following.proofs.exclude.Reads as exclude-reads
 
 abbrev Inv-loop : tie.InvT-loop
 Inv-loop at word cut last prev put₀ trail₀ n e q k₀ far₀ put trail k far = Clearing at word cut put₀ trail₀ n put trail far e q k
@@ -34,23 +30,18 @@ called c = c .before .before .before .before
 placed : (c : tie.At-loop Inv-loop μ-loop) → getD (c .loop .put) (start c .args .e) 0 < length (start c .args .word .now)
 placed c = let pre = start c .pre .1 in rw (c .loop .inv .went .traced .keeps (start c .args .e) (pre .0) (pre .2)) (pre .2)
 
--- src/lib.rt:97:17
 mul-k : tie.Need-mul-k Inv-loop μ-loop
 mul-k c = search needs
 
--- src/lib.rt:97:17
 shared-slice-read-k : tie.Need-shared-slice-read-k Inv-loop μ-loop
 shared-slice-read-k c = let pre = c .before .before .before .before .before .before .before .pre in omega (arith, pre .0 .links .lasts, pre .1 .1)
 
--- src/lib.rt:99:5
 loop-holds : tie.Need-loop-holds Inv-loop μ-loop
 loop-holds c = let pre = c .before .before .before .before .before .before .before .pre in clear-start (pre .0 .card) (pre .0 .links) (pre .1 .1) (pre .0 .shape)
 
--- src/lib.rt:100:17
 sub-x : tie.Need-sub-x Inv-loop μ-loop
 sub-x c = search needs
 
--- src/lib.rt:101:13
 exclude-requires : tie.Need-exclude-requires Inv-loop μ-loop
 exclude-requires c κs =
     let a = turn c .before in
@@ -60,25 +51,21 @@ exclude-requires c κs =
     let there = entry-stands (pre .0 .card) (pre .0 .links) (pre .1 .1) (a .loop .inv) more in
     (pre .0 .card, (a .loop .inv .went .shape, (pre .1 .0, low, pre .1 .1, placed a, there)))
 
--- src/lib.rt:104:17
 mul-k-2 : tie.Need-mul-k-2 Inv-loop μ-loop
 mul-k-2 c = search needs
 
--- src/lib.rt:104:17
 shared-slice-read-k-2 : tie.Need-shared-slice-read-k-2 Inv-loop μ-loop
 shared-slice-read-k-2 c =
     let t = turn (called (c .before .before) .before) in
     let links = start (t .before) .pre .0 .links in
     omega (arith, links .prevs, t .before .loop .inv .low, t .loop-test .taken)
 
--- src/lib.rt:99:5
 loop-less : tie.Need-loop-less Inv-loop μ-loop
 loop-less c =
     let t = turn (called (c .before .before) .before) in
     let links = start (t .before) .pre .0 .links in
     omega (arith, links .next (t .before .loop .k - 1) (omega (arith, t .before .loop .inv .low, t .loop-test .taken)) .0, t .loop-test .taken)
 
--- src/lib.rt:99:5
 loop-again : tie.Need-loop-again Inv-loop μ-loop
 loop-again c =
     let t = turn (called (c .before .before) .before) in
@@ -87,34 +74,28 @@ loop-again c =
     clear-more (pre .0 .card) (pre .0 .links) (pre .1 .1) (a .loop .inv) (t .loop-test .taken) (pre .1 .0) (placed a)
     (went-ok (c .before .if1 .taken) (called (c .before .before) .exclude .ensures))
 
--- src/lib.rt:106:13
 same-length : tie.Need-same-length Inv-loop μ-loop
 same-length c =
     let e = called (c .before) in
     e .exclude .ensures .shape .puts ∙ sym (start (turn (e .before) .before) .pre .0 .shape .puts)
 
--- src/lib.rt:106:13
 same-length-2 : tie.Need-same-length-2 Inv-loop μ-loop
 same-length-2 c =
     let e = called (c .before) in
     e .exclude .ensures .shape .trails ∙ sym (start (turn (e .before) .before) .pre .0 .shape .trails)
 
--- src/lib.rt:106:13
 returns : tie.Need-returns Inv-loop μ-loop
 returns c =
     let t = turn (called (c .before) .before) in
     let a = t .before in
     went-stops (c .if1 .left) (a .loop .inv .went) (called (c .before) .exclude .ensures)
 
--- src/lib.rt:92:1
 same-length-3 : tie.Need-same-length-3 Inv-loop μ-loop
 same-length-3 c = c .before .loop .inv .went .shape .puts ∙ sym (start (c .before) .pre .0 .shape .puts)
 
--- src/lib.rt:92:1
 same-length-4 : tie.Need-same-length-4 Inv-loop μ-loop
 same-length-4 c = c .before .loop .inv .went .shape .trails ∙ sym (start (c .before) .pre .0 .shape .trails)
 
--- src/lib.rt:92:1
 returns-2 : tie.Need-returns-2 Inv-loop μ-loop
 returns-2 c = clear-end (c .loop-test .left) (c .before .loop .inv)
 

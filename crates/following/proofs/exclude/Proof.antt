@@ -1,18 +1,11 @@
 -- `following::exclude` meets its contract: a law of proofs/Forcing.antt for each outcome. Assumes nothing.
-use mathlib.Core.Path.{_≡_, refl, sym, ap, _∙_}
-use mathlib.Core.Logic.{_⊎_, inl, inr, ⊎-elim}
-use Prim.Native.Nat.{ℕ, _+_, _*_, _<_, _≤_}
+use mathlib.Core.Path.{sym, _∙_}
+use mathlib.Core.Logic.{inl, inr}
 use native.Mathlib.Omega.{arith}
-use lib.ListN.{length, getD, length-set}
-use Rattle.following.specs.Following.{Card}
 use Rattle.following.proofs.Forcing.{went-still, went-clash, clash-there, clash-only, went-put, room, other-asks, other-inside}
 use borrow.Author.Needs.{needs}
 use Rattle.following.proofs.exclude.Statement.{statement}
 use Rattle.following.proofs.exclude.Tie as tie
-use Rattle.following.proofs.exclude.Reads as reads
-use Rattle.following.proofs.exclude.Lts as lts
-use Rattle.following.proofs.goes.Reads as goes-reads
-use Rattle.following.proofs.other.Reads as other-reads
 
 abbrev start : tie.After-slice-known2 → tie.Start
 start c = c .before .before .before .before
@@ -29,36 +22,28 @@ barred c = c .before .before .before
 abbrev unplaced-yet : tie.Else4 → tie.Else2
 unplaced-yet c = c .before .before .before
 
--- src/lib.rt:52:9
 returns : tie.Need-returns
 returns c = went-still (start (c .before) .pre .1 .0) (λ d. absurd (d (c .if1 .taken)))
 
--- src/lib.rt:57:27
 mul-goes : tie.Need-mul-goes
 mul-goes c = search needs
 
--- src/lib.rt:57:27
 slice-read-goes : tie.Need-slice-read-goes
 slice-read-goes c = search needs
 
--- src/lib.rt:57:8
 goes-requires : tie.Need-goes-requires
 goes-requires c κs = search needs
 
--- src/lib.rt:58:9
 returns-2 : tie.Need-returns-2
 returns-2 c =
     went-still (unlike (c .before .before .before) .pre .1 .0) (λ d. inl (c .before .goes .ensures (unlike (c .before .before .before) .args .at .now) .yes (c .if2 .taken)))
 
--- src/lib.rt:63:15
 mul-was : tie.Need-mul-was
 mul-was c = search needs
 
--- src/lib.rt:63:15
 slice-read-was : tie.Need-slice-read-was
 slice-read-was c = search needs
 
--- src/lib.rt:65:9
 returns-3 : tie.Need-returns-3
 returns-3 c =
     let b = barred (c .before .before) in
@@ -67,16 +52,13 @@ returns-3 c =
     (clash-there (pre .1 .0) (pre .1 .1 .0) (pre .1 .1 .1) (pre .1 .1 .4) (b .if1 .left) (pre .1 .1 .3)
     (c .before .before .before .goes .ensures (unlike b .args .at .now) .no (c .before .before .if2 .left)) (c .if3 .taken) (pre .1 .1 .2))
 
--- src/lib.rt:71:9
 returns-4 : tie.Need-returns-4
 returns-4 c =
     went-still (unlike (barred (c .before .before .before)) .pre .1 .0) (λ d. inr (c .if4 .taken, c .before .if3 .left))
 
--- src/lib.rt:76:9
 other-requires : tie.Need-other-requires
 other-requires c κs = let pre = unlike (barred (unplaced-yet c)) .pre in other-asks (pre .0) (pre .1 .1 .1) (pre .1 .1 .4)
 
--- src/lib.rt:78:9
 returns-5 : tie.Need-returns-5
 returns-5 c =
     let b = barred (unplaced-yet (c .before .before)) in
@@ -85,38 +67,30 @@ returns-5 c =
     (clash-only (pre .1 .0) (pre .1 .1 .0) (pre .1 .1 .1) (pre .1 .1 .4) (b .if1 .left) (pre .1 .1 .3)
     (unplaced-yet (c .before .before) .before .goes .ensures (unlike b .args .at .now) .no (unplaced-yet (c .before .before) .if2 .left)) (sym (c .before .other .ensures) ∙ c .if5 .taken))
 
--- src/lib.rt:83:5
 mul-put : tie.Need-mul-put
 mul-put c = search needs
 
--- src/lib.rt:83:5
 slice-write-put : tie.Need-slice-write-put
 slice-write-put c = search needs
 
--- src/lib.rt:84:5
 mul-trail : tie.Need-mul-trail
 mul-trail c = search needs
 
--- src/lib.rt:84:5
 slice-write-trail : tie.Need-slice-write-trail
 slice-write-trail c =
     let pre = unlike (barred (unplaced-yet (c .before .before))) .pre in
     let shape = pre .1 .0 in
     omega (arith, shape .trails, room shape (pre .1 .1 .1) (c .before .before .if4 .left) (pre .1 .1 .2))
 
--- src/lib.rt:86:12
 add-t14 : tie.Need-add-t14
 add-t14 c = search needs
 
--- src/lib.rt:45:1
 same-length : tie.Need-same-length
 same-length c = search needs
 
--- src/lib.rt:45:1
 same-length-2 : tie.Need-same-length-2
 same-length-2 c = search needs
 
--- src/lib.rt:45:1
 returns-6 : tie.Need-returns-6
 returns-6 c =
     let b = barred (unplaced-yet (c .before .before)) in

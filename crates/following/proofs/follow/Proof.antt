@@ -1,17 +1,14 @@
 -- `following::follow` meets its contract. The loop's invariant: each placed entry is rid of what it excludes, but for those on the trail
 -- from top on (`Chasing`, proofs/Forcing.antt). The measure is what is left of the trail's room. Assumes nothing.
-use mathlib.Core.Path.{_≡_, refl, sym, ap, _∙_}
-use Prim.Native.Nat.{ℕ, _+_, _-_, _<_, _≤_}
+use mathlib.Core.Path.{sym, _∙_}
+use Prim.Native.Nat.{_-_}
 use native.Mathlib.Omega.{arith}
-use lib.ListN.{length, getD, length-set}
+use lib.ListN.{length}
 use borrow.Author.Needs.{needs}
 use Rattle.following.specs.Following.{pairsOf}
 use Rattle.following.proofs.Forcing.{Chasing, chase-start, chase-more, follow-end, follow-stop, went-ok, went-stops, room}
 use Rattle.following.proofs.follow.Statement.{statement}
 use Rattle.following.proofs.follow.Tie as tie
-use Rattle.following.proofs.follow.Reads as reads
-use Rattle.following.proofs.follow.Lts as lts
-use Rattle.following.proofs.rid.Reads as rid-reads
 
 abbrev Inv-loop : tie.InvT-loop
 Inv-loop at word cut last prev put₀ trail₀ n e p top₀ far₀ put trail top far = Chasing (pairsOf at word cut) put₀ trail₀ far₀ put trail far top
@@ -32,45 +29,36 @@ turn c = c .before .before .before
 abbrev called : tie.After-slice-known5 Inv-loop μ-loop → tie.After-rid Inv-loop μ-loop
 called c = c .before .before .before .before
 
--- src/lib.rt:161:5
 mul-put : tie.Need-mul-put Inv-loop μ-loop
 mul-put c = search needs
 
--- src/lib.rt:161:5
 slice-write-put : tie.Need-slice-write-put Inv-loop μ-loop
 slice-write-put c = let pre = entered c .pre in omega (arith, pre .0 .shape .puts, pre .1 .1 .0)
 
--- src/lib.rt:162:5
 mul-trail : tie.Need-mul-trail Inv-loop μ-loop
 mul-trail c = search needs
 
--- src/lib.rt:162:5
 slice-write-trail : tie.Need-slice-write-trail Inv-loop μ-loop
 slice-write-trail c =
     let pre = entered c .pre in
     omega (arith, pre .0 .shape .trails, room (pre .0 .shape) (pre .1 .1 .0) (pre .1 .1 .1) (pre .1 .1 .2))
 
--- src/lib.rt:164:19
 add-far : tie.Need-add-far Inv-loop μ-loop
 add-far c =
     let pre = entered c .pre in
     omega (arith, room (pre .0 .shape) (pre .1 .1 .0) (pre .1 .1 .1) (pre .1 .1 .2))
 
--- src/lib.rt:165:5
 loop-holds : tie.Need-loop-holds Inv-loop μ-loop
 loop-holds c =
     let pre = entered c .pre in
     chase-start (pre .0 .shape) (pre .1 .0) (pre .1 .1 .0) (pre .1 .1 .1) (pre .1 .1 .2) (pre .1 .1 .3)
 
--- src/lib.rt:166:17
 mul-f : tie.Need-mul-f Inv-loop μ-loop
 mul-f c = search needs
 
--- src/lib.rt:166:17
 slice-read-f : tie.Need-slice-read-f Inv-loop μ-loop
 slice-read-f c = let shape = c .before .before .loop .inv .went .shape in omega (arith, shape .count, shape .trails, c .before .loop-test .taken)
 
--- src/lib.rt:167:13
 rid-requires : tie.Need-rid-requires Inv-loop μ-loop
 rid-requires c κs =
     let t = turn c in
@@ -78,38 +66,32 @@ rid-requires c κs =
     let shape = t .before .loop .inv .went .shape in
     (record { card = pre .0 .card; links = pre .0 .links; shape = shape }, (shape .inside _ (t .loop-test .taken), shape .placed _ (t .loop-test .taken)))
 
--- src/lib.rt:170:13
 add-top : tie.Need-add-top Inv-loop μ-loop
 add-top c =
     let t = turn (called (c .before) .before) in
     omega (arith, t .before .loop .inv .went .shape .count, t .loop-test .taken, start (t .before) .good)
 
--- src/lib.rt:165:5
 loop-less : tie.Need-loop-less Inv-loop μ-loop
 loop-less c =
     let t = turn (called (c .before) .before) in
     omega (arith, t .before .loop .inv .went .shape .count, t .loop-test .taken)
 
--- src/lib.rt:165:5
 loop-again : tie.Need-loop-again Inv-loop μ-loop
 loop-again c =
     let d = called (c .before) in
     let t = turn (d .before) in
     chase-more (t .before .loop .inv) (t .loop-test .taken) (went-ok (c .if1 .taken) (d .rid .ensures))
 
--- src/lib.rt:172:13
 same-length : tie.Need-same-length Inv-loop μ-loop
 same-length c =
     let d = called (c .before) in
     d .rid .ensures .shape .puts ∙ sym (start (turn (d .before) .before) .pre .0 .shape .puts)
 
--- src/lib.rt:172:13
 same-length-2 : tie.Need-same-length-2 Inv-loop μ-loop
 same-length-2 c =
     let d = called (c .before) in
     d .rid .ensures .shape .trails ∙ sym (start (turn (d .before) .before) .pre .0 .shape .trails)
 
--- src/lib.rt:172:13
 returns : tie.Need-returns Inv-loop μ-loop
 returns c =
     let d = called (c .before) in
@@ -118,15 +100,12 @@ returns c =
     follow-stop (pre .0 .shape) (pre .1 .0) (pre .1 .1 .0) (pre .1 .1 .1) (pre .1 .1 .2) (pre .1 .1 .3) {A = Unit {0}} (c .if1 .left)
     (went-stops (c .if1 .left) (t .before .loop .inv .went) (d .rid .ensures))
 
--- src/lib.rt:155:1
 same-length-3 : tie.Need-same-length-3 Inv-loop μ-loop
 same-length-3 c = c .before .loop .inv .went .shape .puts ∙ sym (start (c .before) .pre .0 .shape .puts)
 
--- src/lib.rt:155:1
 same-length-4 : tie.Need-same-length-4 Inv-loop μ-loop
 same-length-4 c = c .before .loop .inv .went .shape .trails ∙ sym (start (c .before) .pre .0 .shape .trails)
 
--- src/lib.rt:155:1
 returns-2 : tie.Need-returns-2 Inv-loop μ-loop
 returns-2 c =
     let pre = start (c .before) .pre in

@@ -1,5 +1,5 @@
 -- `following::near` meets its contract. Assumes nothing.
-use mathlib.Core.Path.{_≡_, sym, _∙_}
+use mathlib.Core.Path.{_≡_}
 use Prim.Native.Nat.{ℕ, _+_, _-_, _<_}
 use native.Mathlib.Omega.{arith}
 use borrow.Author.Needs.{needs}
@@ -7,10 +7,6 @@ use lib.ListN.{length}
 use Rattle.following.proofs.Forcing.{went-still, went-told, went-none, went-stuck, beyond, inside-of}
 use Rattle.following.proofs.near.Statement.{statement}
 use Rattle.following.proofs.near.Tie as tie
-use Rattle.following.proofs.near.Reads as reads
-use Rattle.following.proofs.near.Lts as lts
-use Rattle.following.proofs.can_be_filled.Reads as can-be-filled-reads
-use Rattle.following.proofs.clear.Reads as clear-reads
 
 abbrev start : tie.After-slice-known2 → tie.Start
 start c = c .before .before .before .before .before .before
@@ -30,40 +26,32 @@ cleared c = c .before .before .before .before
 in-range : (c : tie.After-clear-arg2) → asked c .args .after - 1 < length (asked c .args .word .now)
 in-range c = omega (arith, tested c .if2 .left, tested c .before .if1 .left)
 
--- src/lib.rt:171:9
 returns : tie.Need-returns
 returns c = went-still (start (c .before) .pre .0 .shape) (λ q h. absurd (omega (arith, h, c .if1 .taken)))
 
--- src/lib.rt:174:9
 returns-2 : tie.Need-returns-2
 returns-2 c =
     let pre = start (c .before .before) .pre in
     went-still (pre .0 .shape) (λ q h f fp d z. absurd (beyond (pre .0 .card) q 0 f fp (omega (arith, h, c .if2 .taken)) z))
 
--- src/lib.rt:176:13
 sub-q : tie.Need-sub-q
 sub-q c = search needs
 
--- src/lib.rt:177:9
 clear-requires : tie.Need-clear-requires
 clear-requires c κs = let pre = asked c .pre in (pre .0, (pre .1 .0, in-range c, pre .1 .1))
 
--- src/lib.rt:179:12
 can-be-filled-requires : tie.Need-can-be-filled-requires
 can-be-filled-requires c κs =
     let g = cleared (c .before .before) in
     let pre = asked (g .before) .pre in
     (in-range (g .before), g .clear .ensures .shape .puts, pre .0 .card, pre .0 .links)
 
--- src/lib.rt:180:13
 same-length : tie.Need-same-length
 same-length c = search needs
 
--- src/lib.rt:180:13
 same-length-2 : tie.Need-same-length-2
 same-length-2 c = search needs
 
--- src/lib.rt:180:13
 returns-3 : tie.Need-returns-3
 returns-3 c =
     let g = cleared (c .before .before .before .before) in
@@ -73,15 +61,12 @@ returns-3 c =
         → q ≡ asked (cleared (c .before .before .before .before) .before) .args .after - 1
     the-place q h = omega arith
 
--- src/lib.rt:182:9
 same-length-3 : tie.Need-same-length-3
 same-length-3 c = search needs
 
--- src/lib.rt:182:9
 same-length-4 : tie.Need-same-length-4
 same-length-4 c = search needs
 
--- src/lib.rt:182:9
 returns-4 : tie.Need-returns-4
 returns-4 c =
     let t = c .before .before .before in
@@ -89,15 +74,12 @@ returns-4 c =
     went-stuck (inside-of (asked (g .before) .pre .0 .card)) (in-range (g .before)) (t .if3 .taken) (g .clear .ensures)
     (c .before .can-be-filled .ensures (c .if4 .left))
 
--- src/lib.rt:154:1
 same-length-5 : tie.Need-same-length-5
 same-length-5 c = search needs
 
--- src/lib.rt:154:1
 same-length-6 : tie.Need-same-length-6
 same-length-6 c = search needs
 
--- src/lib.rt:154:1
 returns-5 : tie.Need-returns-5
 returns-5 c = went-none (c .if3 .left) (cleared (c .before) .clear .ensures)
 

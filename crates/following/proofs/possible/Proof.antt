@@ -1,31 +1,23 @@
 -- `following::possible` meets its contract. Assumes nothing.
-use mathlib.Core.Path.{_≡_, refl, sym, ap, _∙_}
 use mathlib.Core.Bool.{true, false}
 use mathlib.Core.Logic.{_⊎_, inl, inr, ⊎-elim}
-use Prim.Native.Nat.{ℕ, _+_, _-_, _/_, _<_, _≤_}
+use Prim.Native.Nat.{_-_}
 use native.Mathlib.Omega.{arith}
-use lib.ListN.{length, getD}
 use mathlib.Core.Bool.{true≢false}
 use borrow.Author.Tests.{eqb-true, eqb-false}
 use borrow.Author.Needs.{needs}
 use Rattle.following.proofs.possible.Statement.{statement}
 use Rattle.following.proofs.possible.Tie as tie
-use Rattle.following.proofs.possible.Reads as reads
-use Rattle.following.proofs.possible.Lts as lts
 
--- src/lib.rt:263:13
 mul-p : tie.Need-mul-p
 mul-p c = search needs
 
--- src/lib.rt:263:13
 shared-slice-read-p : tie.Need-shared-slice-read-p
 shared-slice-read-p c = search needs
 
--- src/lib.rt:265:9
 returns : tie.Need-returns
 returns c = record { yes = λ x. inr (eqb-true _ _ x); no = λ x. ⊎-elim (λ y. absurd (omega (arith, y, c .if1 .taken))) (eqb-false _ _ x) }
 
--- src/lib.rt:259:1
 returns-2 : tie.Need-returns-2
 returns-2 c = record { yes = λ _. inl (c .if1 .left); no = λ x. absurd (true≢false x) }
 

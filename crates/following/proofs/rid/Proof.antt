@@ -1,15 +1,9 @@
 -- `following::rid` meets its contract: three calls in a row. Assumes nothing.
-use mathlib.Core.Path.{_≡_, _∙_}
-use Prim.Native.Nat.{_<_}
+use mathlib.Core.Path.{_∙_}
 use borrow.Author.Needs.{needs}
-use lib.ListN.{length, getD}
 use Rattle.following.proofs.Forcing.{went-stops, went-ok, went-none, rid-whole}
 use Rattle.following.proofs.rid.Statement.{statement}
 use Rattle.following.proofs.rid.Tie as tie
-use Rattle.following.proofs.rid.Reads as reads
-use Rattle.following.proofs.rid.Lts as lts
-use Rattle.following.proofs.clear.Reads as clear-reads
-use Rattle.following.proofs.near.Reads as near-reads
 
 abbrev start : tie.After-clear → tie.Start
 start c = c .before .before .before .before .before .before .before .before .before .before
@@ -30,23 +24,18 @@ three c = c .before .before .before .before
 abbrev past-two : tie.After-near2 → tie.Then2
 past-two c = c .before .before .before
 
--- src/lib.rt:203:13
 mul-p : tie.Need-mul-p
 mul-p c = search needs
 
--- src/lib.rt:203:13
 slice-read-p : tie.Need-slice-read-p
 slice-read-p c = search needs
 
--- src/lib.rt:204:9
 clear-requires : tie.Need-clear-requires
 clear-requires c κs = search needs
 
--- src/lib.rt:206:69
 add-near : tie.Need-add-near
 add-near c = search needs
 
--- src/lib.rt:206:13
 near-requires : tie.Need-near-requires
 near-requires c κs =
     let a = one (c .before .before .before) in
@@ -56,7 +45,6 @@ near-requires c κs =
       (pre .1 .0, rw (w .traced .keeps _ (pre .1 .0) (pre .1 .1)) (pre .1 .1)),
     )
 
--- src/lib.rt:208:13
 near-requires-2 : tie.Need-near-requires-2
 near-requires-2 c κs =
     let b = two (c .before .before .before) in
@@ -68,15 +56,12 @@ near-requires-2 c κs =
       (pre .1 .0, rw (w .traced .keeps _ (pre .1 .0) (rw same (pre .1 .1)) ∙ same) (pre .1 .1)),
     )
 
--- src/lib.rt:208:13
 same-length : tie.Need-same-length
 same-length c = search needs
 
--- src/lib.rt:208:13
 same-length-2 : tie.Need-same-length-2
 same-length-2 c = search needs
 
--- src/lib.rt:208:13
 returns : tie.Need-returns
 returns c =
     let d = three c in
@@ -86,30 +71,24 @@ returns c =
     rid-whole (pre .1 .0) (pre .1 .1) (went-ok (past-one b .if1 .taken) (a .clear .ensures))
     (went-ok (past-two d .if2 .taken) (b .near .ensures)) (d .near2 .ensures)
 
--- src/lib.rt:210:9
 same-length-3 : tie.Need-same-length-3
 same-length-3 c = search needs
 
--- src/lib.rt:210:9
 same-length-4 : tie.Need-same-length-4
 same-length-4 c = search needs
 
--- src/lib.rt:210:9
 returns-2 : tie.Need-returns-2
 returns-2 c =
     let b = two (c .before) in
     let a = one (past-one b .before) in
     went-stops (c .if2 .left) (went-ok (past-one b .if1 .taken) (a .clear .ensures)) (b .near .ensures)
 
--- src/lib.rt:188:1
 same-length-5 : tie.Need-same-length-5
 same-length-5 c = search needs
 
--- src/lib.rt:188:1
 same-length-6 : tie.Need-same-length-6
 same-length-6 c = search needs
 
--- src/lib.rt:188:1
 returns-3 : tie.Need-returns-3
 returns-3 c = went-none (c .if1 .left) (one (c .before) .clear .ensures)
 

@@ -1,15 +1,12 @@
 -- `following::undo` meets its contract. The loop's invariant is `Undoing` of proofs/Forcing.antt; the measure is what is left of the trail.
 -- Assumes nothing.
-use mathlib.Core.Path.{_≡_, refl, sym, ap, _∙_}
-use Prim.Native.Nat.{ℕ, _+_, _-_, _<_, _≤_}
+use Prim.Native.Nat.{_-_, _<_}
 use native.Mathlib.Omega.{arith}
 use lib.ListN.{length, getD}
 use borrow.Author.Needs.{needs}
 use Rattle.following.proofs.Forcing.{Undoing, undo-start, undo-more, undo-end}
 use Rattle.following.proofs.undo.Statement.{statement}
 use Rattle.following.proofs.undo.Tie as tie
-use Rattle.following.proofs.undo.Reads as reads
-use Rattle.following.proofs.undo.Lts as lts
 
 abbrev Inv-loop : tie.InvT-loop
 Inv-loop put₀ trail from n none i₀ put i = Undoing put₀ trail from n none put i
@@ -21,43 +18,33 @@ abbrev μ-loop : tie.MeasureT-loop
 low : (c : tie.In-loop Inv-loop μ-loop) → getD (c .before .before .args .trail .now) (c .before .loop .i) 0 < length (c .before .before .args .put .now)
 low c = c .before .before .pre .1 (c .before .loop .i) (c .loop-test .taken)
 
--- src/lib.rt:188:5
 loop-holds : tie.Need-loop-holds Inv-loop μ-loop
 loop-holds c = undo-start
 
--- src/lib.rt:189:17
 mul-e : tie.Need-mul-e Inv-loop μ-loop
 mul-e c = search needs
 
--- src/lib.rt:189:17
 shared-slice-read-e : tie.Need-shared-slice-read-e Inv-loop μ-loop
 shared-slice-read-e c = search needs
 
--- src/lib.rt:190:9
 mul-put : tie.Need-mul-put Inv-loop μ-loop
 mul-put c = omega (arith, low (c .before), c .before .before .loop .inv .count)
 
--- src/lib.rt:190:9
 slice-write-put : tie.Need-slice-write-put Inv-loop μ-loop
 slice-write-put c = omega (arith, low (c .before), c .before .before .loop .inv .count)
 
--- src/lib.rt:191:9
 add-i : tie.Need-add-i Inv-loop μ-loop
 add-i c = search needs
 
--- src/lib.rt:188:5
 loop-less : tie.Need-loop-less Inv-loop μ-loop
 loop-less c = search needs
 
--- src/lib.rt:188:5
 loop-again : tie.Need-loop-again Inv-loop μ-loop
 loop-again c = undo-more (c .before .before .loop .inv) (c .before .loop-test .taken) (low (c .before))
 
--- src/lib.rt:182:1
 same-length : tie.Need-same-length Inv-loop μ-loop
 same-length c = c .before .loop .inv .count
 
--- src/lib.rt:182:1
 returns : tie.Need-returns Inv-loop μ-loop
 returns c = undo-end (c .before .loop .inv) (c .loop-test .left)
 

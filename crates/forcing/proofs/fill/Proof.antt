@@ -1,19 +1,15 @@
 -- `forcing::fill` meets its contract. Assumes nothing.
-use mathlib.Core.Path.{_≡_, refl, sym, ap, _∙_}
-use mathlib.Core.Bool.{true, false}
-use mathlib.Core.Logic.{_⊎_, inl, inr, ⊎-elim}
-use Prim.Native.Nat.{ℕ, _+_, _-_, _/_, _<_, _≤_}
+use mathlib.Core.Path.{_≡_, ap, _∙_}
+use Prim.Native.Nat.{ℕ, _+_, _-_, _<_, _≤_}
 use native.Mathlib.Omega.{arith}
-use lib.ListN.{length, getD, set, replicate, drop, length-set, length-replicate}
+use lib.ListN.{length, set, replicate, drop, length-replicate}
 use borrow.Author.Needs.{needs}
 use borrow.Author.Fill.{fill-none, fill-more}
-use mathlib.Core.List.{List, [], _++_, append-nil}
+use mathlib.Core.List.{List, _++_, append-nil}
 use lib.Seq.{drop-length}
-use lib.ListN.{length-append, length-drop, drop-of-length-le}
+use lib.ListN.{length-append, length-drop}
 use Rattle.forcing.proofs.fill.Statement.{statement}
 use Rattle.forcing.proofs.fill.Tie as tie
-use Rattle.forcing.proofs.fill.Reads as reads
-use Rattle.forcing.proofs.fill.Lts as lts
 
 abbrev Inv-loop : tie.InvT-loop
 Inv-loop s₀ v i₀ s i = (i ≤ length s₀) × (s ≡ replicate i v ++ drop i s₀)
@@ -30,40 +26,32 @@ whole s s₀ i v h l e = let x : i ≡ length s₀ = omega (arith, long s s₀ i
 below : (c : tie.In-loop Inv-loop μ-loop) → c .before .loop .i < length (c .before .before .args .s .now)
 below c = let b = c .before in omega (arith, c .loop-test .taken, long _ _ _ _ (b .loop .inv .0) (b .loop .inv .1))
 
--- src/lib.rt:530:5
 loop-holds : tie.Need-loop-holds Inv-loop μ-loop
 loop-holds c = (omega arith, fill-none _ (c .args .v))
 
--- src/lib.rt:531:9
 mul-s : tie.Need-mul-s Inv-loop μ-loop
 mul-s c = search needs
 
--- src/lib.rt:531:9
 slice-write-s : tie.Need-slice-write-s Inv-loop μ-loop
 slice-write-s c = c .loop-test .taken
 
--- src/lib.rt:532:9
 add-i : tie.Need-add-i Inv-loop μ-loop
 add-i c = search needs
 
--- src/lib.rt:530:5
 loop-less : tie.Need-loop-less Inv-loop μ-loop
 loop-less c =
     let b = c .before in
     omega (arith, c .loop-test .taken, long _ _ _ _ (b .loop .inv .0) (b .loop .inv .1))
 
--- src/lib.rt:530:5
 loop-again : tie.Need-loop-again Inv-loop μ-loop
 loop-again c =
     let b = c .before in
     let l = below c in
     (omega arith, ap (λ (x : List ℕ). set x (b .loop .i) (b .before .args .v)) (b .loop .inv .1) ∙ fill-more _ _ _ l)
 
--- src/lib.rt:526:1
 same-length : tie.Need-same-length Inv-loop μ-loop
 same-length c = long _ _ _ _ (c .before .loop .inv .0) (c .before .loop .inv .1)
 
--- src/lib.rt:526:1
 returns : tie.Need-returns Inv-loop μ-loop
 returns c = whole _ _ _ _ (c .before .loop .inv .0) (c .loop-test .left) (c .before .loop .inv .1)
 

@@ -1,20 +1,11 @@
 -- `forcing::force` meets its contract: a law of proofs/Rooted.antt for each outcome. Assumes nothing.
-use mathlib.Core.Path.{_≡_, refl, sym, ap, _∙_}
-use mathlib.Core.Bool.{true, false}
-use mathlib.Core.Logic.{_⊎_, inl, inr, ⊎-elim}
-use Prim.Native.Nat.{ℕ, _+_, _-_, _*_, _/_, _<_, _≤_}
+use Prim.Native.Nat.{_-_}
 use native.Mathlib.Omega.{arith}
-use lib.ListN.{length, getD}
 use Rattle.following.proofs.Forcing.{inside-of}
 use Rattle.forcing.proofs.Rooted.{force-none, force-still, force-one}
 use borrow.Author.Needs.{needs}
 use Rattle.forcing.proofs.force.Statement.{statement}
 use Rattle.forcing.proofs.force.Tie as tie
-use Rattle.forcing.proofs.force.Reads as reads
-use Rattle.forcing.proofs.force.Lts as lts
-use Rattle.forcing.proofs.entries_at.Reads as entries-at-reads
-use Rattle.following.proofs.follow.Reads as follow-reads
-use Rattle.forcing.proofs.stands.Reads as stands-reads
 
 abbrev start : tie.After-entries-at → tie.Start
 start c = c .before .before .before .before .before .before .before .before
@@ -32,37 +23,30 @@ free c = c .before
 abbrev low : tie.Then4 → tie.Then3
 low c = c .before .before
 
--- src/lib.rt:539:9
 entries-at-requires : tie.Need-entries-at-requires
 entries-at-requires c κs = search needs
 
--- src/lib.rt:541:9
 same-length : tie.Need-same-length
 same-length c = search needs
 
--- src/lib.rt:541:9
 returns : tie.Need-returns
 returns c =
     let a = c .before .before in
     let pre = start a .pre in
     force-none (inside-of (pre .0 .card)) (pre .1 .0) (pre .0 .shape) (pre .1 .1) (a .entries-at .ensures) (c .if1 .taken)
 
--- src/lib.rt:549:16
 mul-if4 : tie.Need-mul-if4
 mul-if4 c = search needs
 
--- src/lib.rt:549:16
 slice-read-if4 : tie.Need-slice-read-if4
 slice-read-if4 c = search needs
 
--- src/lib.rt:550:20
 stands-requires : tie.Need-stands-requires
 stands-requires c κs =
     let l = low c in
     let pre = start (seen (l .before .before)) .pre in
     omega (arith, pre .0 .card .slots, l .if3 .taken)
 
--- src/lib.rt:551:21
 follow-requires : tie.Need-follow-requires
 follow-requires c κs =
     let b = tested c in
@@ -71,15 +55,12 @@ follow-requires c κs =
     let pre = start (seen (l .before .before)) .pre in
     (pre .0, (pre .1 .0 .closed, (l .if3 .taken, f .if4 .taken, pre .1 .1, b .before .stands .ensures (b .if5 .taken))))
 
--- src/lib.rt:551:21
 same-length-2 : tie.Need-same-length-2
 same-length-2 c = search needs
 
--- src/lib.rt:551:21
 same-length-3 : tie.Need-same-length-3
 same-length-3 c = search needs
 
--- src/lib.rt:551:21
 returns-2 : tie.Need-returns-2
 returns-2 c =
     let g = c .before .before .before .before in
@@ -88,44 +69,36 @@ returns-2 c =
     let pre = start a .pre in
     force-one (inside-of (pre .0 .card)) (pre .1 .0) (pre .0 .shape) (pre .1 .1) (a .entries-at .ensures) (t .if2 .taken) _ _ _ _ (g .follow .ensures)
 
--- src/lib.rt:533:1
 same-length-4 : tie.Need-same-length-4
 same-length-4 c = search needs
 
--- src/lib.rt:533:1
 returns-3 : tie.Need-returns-3
 returns-3 c =
     let a = seen (low (free (c .before)) .before .before) in
     let pre = start a .pre in
     force-still (inside-of (pre .0 .card)) (pre .1 .0) (pre .0 .shape) (pre .1 .1) (a .entries-at .ensures)
 
--- src/lib.rt:533:1
 same-length-5 : tie.Need-same-length-5
 same-length-5 c = search needs
 
--- src/lib.rt:533:1
 returns-4 : tie.Need-returns-4
 returns-4 c =
     let a = seen (c .before .before .before .before) in
     let pre = start a .pre in
     force-still (inside-of (pre .0 .card)) (pre .1 .0) (pre .0 .shape) (pre .1 .1) (a .entries-at .ensures)
 
--- src/lib.rt:533:1
 same-length-6 : tie.Need-same-length-6
 same-length-6 c = search needs
 
--- src/lib.rt:533:1
 returns-5 : tie.Need-returns-5
 returns-5 c =
     let a = seen (c .before .before) in
     let pre = start a .pre in
     force-still (inside-of (pre .0 .card)) (pre .1 .0) (pre .0 .shape) (pre .1 .1) (a .entries-at .ensures)
 
--- src/lib.rt:533:1
 same-length-7 : tie.Need-same-length-7
 same-length-7 c = search needs
 
--- src/lib.rt:533:1
 returns-6 : tie.Need-returns-6
 returns-6 c =
     let a = seen (c .before) in

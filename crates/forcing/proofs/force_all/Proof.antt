@@ -1,19 +1,14 @@
 -- `forcing::force_all` meets its contract. Assumes nothing.
-use mathlib.Core.Path.{_≡_, refl, sym, ap, _∙_}
+use mathlib.Core.Path.{sym, _∙_}
 use mathlib.Core.Bool.{true, false, true≢false}
-use mathlib.Core.Logic.{_⊎_, inl, inr, ⊎-elim}
-use Prim.Native.Nat.{ℕ, _+_, _-_, _*_, _/_, _<_, _≤_}
+use Prim.Native.Nat.{_-_}
 use native.Mathlib.Omega.{arith}
-use lib.ListN.{length, getD}
+use lib.ListN.{length}
 use borrow.Author.Needs.{needs}
 use Rattle.following.specs.Following.{Trail, pairsOf, of}
 use Rattle.forcing.specs.Forcing.{Root}
-use Rattle.following.proofs.Forcing.{other-asks, other-inside}
 use Rattle.forcing.proofs.force_all.Statement.{statement}
 use Rattle.forcing.proofs.force_all.Tie as tie
-use Rattle.forcing.proofs.force_all.Reads as reads
-use Rattle.forcing.proofs.force_all.Lts as lts
-use Rattle.forcing.proofs.force_if.Reads as force-if-reads
 
 abbrev Inv-loop : tie.InvT-loop
 Inv-loop at word cut last prev put₀ trail₀ n count far₀ t₀ put trail far t = Trail (length word) put trail far × Root (pairsOf at word cut) (of put)
@@ -30,19 +25,15 @@ called c = c .before .before .before .before
 abbrev turn : tie.After-force-if Inv-loop μ-loop → tie.In-loop Inv-loop μ-loop
 turn c = c .before .before .before .before
 
--- src/lib.rt:636:5
 loop-holds : tie.Need-loop-holds Inv-loop μ-loop
 loop-holds c = let pre = c .before .before .before .before .before .before .before .pre in (pre .0 .shape, pre .1 .0)
 
--- src/lib.rt:637:17
 mul-k : tie.Need-mul-k Inv-loop μ-loop
 mul-k c = search needs
 
--- src/lib.rt:637:17
 shared-slice-read-k : tie.Need-shared-slice-read-k Inv-loop μ-loop
 shared-slice-read-k c = let t = c .before in omega (arith, t .loop-test .taken, start (t .before) .pre .1 .1)
 
--- src/lib.rt:638:13
 force-if-requires : tie.Need-force-if-requires Inv-loop μ-loop
 force-if-requires c κs =
     let t = c .before .before .before in
@@ -50,43 +41,34 @@ force-if-requires c κs =
     let inv = t .before .loop .inv in
     (record { card = pre .0 .card; links = pre .0 .links; shape = inv .0 }, (inv .1, t .loop-test .taken))
 
--- src/lib.rt:641:13
 add-t : tie.Need-add-t Inv-loop μ-loop
 add-t c = let t = turn (called (c .before)) in omega (arith, t .loop-test .taken, start (t .before) .good)
 
--- src/lib.rt:636:5
 loop-less : tie.Need-loop-less Inv-loop μ-loop
 loop-less c = let t = turn (called (c .before)) in omega (arith, t .loop-test .taken)
 
--- src/lib.rt:636:5
 loop-again : tie.Need-loop-again Inv-loop μ-loop
 loop-again c = let g = called (c .before) .force-if .ensures in (g .shape, g .good (c .if1 .taken))
 
--- src/lib.rt:643:13
 same-length : tie.Need-same-length Inv-loop μ-loop
 same-length c =
     let d = called (c .before) in
     d .force-if .ensures .shape .puts ∙ sym (start (turn d .before) .pre .0 .shape .puts)
 
--- src/lib.rt:643:13
 same-length-2 : tie.Need-same-length-2 Inv-loop μ-loop
 same-length-2 c =
     let d = called (c .before) in
     d .force-if .ensures .shape .trails ∙ sym (start (turn d .before) .pre .0 .shape .trails)
 
--- src/lib.rt:643:13
 returns : tie.Need-returns Inv-loop μ-loop
 returns c = called (c .before) .force-if .ensures
 
--- src/lib.rt:628:1
 same-length-3 : tie.Need-same-length-3 Inv-loop μ-loop
 same-length-3 c = c .before .loop .inv .0 .puts ∙ sym (start (c .before) .pre .0 .shape .puts)
 
--- src/lib.rt:628:1
 same-length-4 : tie.Need-same-length-4 Inv-loop μ-loop
 same-length-4 c = c .before .loop .inv .0 .trails ∙ sym (start (c .before) .pre .0 .shape .trails)
 
--- src/lib.rt:628:1
 returns-2 : tie.Need-returns-2 Inv-loop μ-loop
 returns-2 c = record { shape = c .before .loop .inv .0; good = λ _. c .before .loop .inv .1; bad = λ x. absurd (true≢false x) }
 

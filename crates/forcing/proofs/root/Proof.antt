@@ -1,17 +1,9 @@
 -- `forcing::root` meets its contract: the calls in a row. Assumes nothing.
-use mathlib.Core.Path.{_≡_, refl, sym, ap, _∙_}
-use Prim.Native.Nat.{ℕ, _<_}
-use native.Mathlib.Omega.{arith}
-use lib.ListN.{length, getD, length-replicate}
+use mathlib.Core.Path.{ap, _∙_}
+use lib.ListN.{length, length-replicate}
 use borrow.Author.Needs.{needs}
 use Rattle.forcing.proofs.root.Statement.{statement}
 use Rattle.forcing.proofs.root.Tie as tie
-use Rattle.forcing.proofs.root.Reads as reads
-use Rattle.forcing.proofs.root.Lts as lts
-use Rattle.forcing.proofs.count_up.Reads as count-up-reads
-use Rattle.forcing.proofs.fill.Reads as fill-reads
-use Rattle.forcing.proofs.force_all.Reads as force-all-reads
-use Rattle.forcing.proofs.spread.Reads as spread-reads
 
 abbrev start : tie.After-fill → tie.Start
 start c = c .before .before .before .before .before .before .before .before .before
@@ -25,18 +17,15 @@ counted c = c .before .before .before .before .before .before
 abbrev forced : tie.Then1 → tie.After-force-all
 forced c = c .before .before .before .before .before
 
--- src/lib.rt:752:5
 fill-requires : tie.Need-fill-requires
 fill-requires c κs = search needs
 
--- src/lib.rt:753:5
 count-up-requires : tie.Need-count-up-requires
 count-up-requires c κs =
     let f = c .before .before .before in
     let pre = start f .pre in
     λ x h. rw (ap length (f .fill .ensures) ∙ length-replicate (length (start (f) .args .count .now)) 0 ∙ pre .1 .1) (pre .0 .card .inside x h)
 
--- src/lib.rt:754:9
 force-all-requires : tie.Need-force-all-requires
 force-all-requires c κs =
     let u = c .before .before .before .before .before in
@@ -44,7 +33,6 @@ force-all-requires c κs =
     let pre = start f .pre in
     (pre .0, (pre .1 .0, u .count-up .ensures ∙ ap length (f .fill .ensures) ∙ length-replicate (length (start (f) .args .count .now)) 0 ∙ pre .1 .1))
 
--- src/lib.rt:756:9
 spread-requires : tie.Need-spread-requires
 spread-requires c κs =
     let t = c .before .before .before in
@@ -55,35 +43,27 @@ spread-requires c κs =
     let g = d .force-all .ensures in
     (record { card = pre .0 .card; links = pre .0 .links; shape = g .shape }, (g .good (t .if1 .taken), u .count-up .ensures ∙ ap length (f .fill .ensures) ∙ length-replicate (length (start (f) .args .count .now)) 0 ∙ pre .1 .1))
 
--- src/lib.rt:756:9
 same-length : tie.Need-same-length
 same-length c = search needs
 
--- src/lib.rt:756:9
 same-length-2 : tie.Need-same-length-2
 same-length-2 c = search needs
 
--- src/lib.rt:756:9
 same-length-3 : tie.Need-same-length-3
 same-length-3 c = search needs
 
--- src/lib.rt:756:9
 returns : tie.Need-returns
 returns c = search needs
 
--- src/lib.rt:746:1
 same-length-4 : tie.Need-same-length-4
 same-length-4 c = search needs
 
--- src/lib.rt:746:1
 same-length-5 : tie.Need-same-length-5
 same-length-5 c = search needs
 
--- src/lib.rt:746:1
 same-length-6 : tie.Need-same-length-6
 same-length-6 c = search needs
 
--- src/lib.rt:746:1
 returns-2 : tie.Need-returns-2
 returns-2 c = search needs
 

@@ -1,21 +1,14 @@
 -- `forcing::spread` meets its contract. Assumes nothing.
-use mathlib.Core.Path.{_≡_, refl, sym, ap, _∙_}
+use mathlib.Core.Path.{_≡_, sym, _∙_}
 use mathlib.Core.Bool.{true, false, true≢false}
-use mathlib.Core.Logic.{_⊎_, inl, inr, ⊎-elim}
-use Prim.Native.Nat.{ℕ, _+_, _-_, _*_, _/_, _<_, _≤_}
+use Prim.Native.Nat.{_-_, _<_}
 use native.Mathlib.Omega.{arith}
-use lib.ListN.{length, getD}
-use borrow.Author.Needs.{needs}
+use lib.ListN.{length}
 use Rattle.following.specs.Following.{Trail, pairsOf, of}
 use Rattle.forcing.specs.Forcing.{Root}
 use Rattle.following.proofs.Forcing.{other-asks, other-inside}
 use Rattle.forcing.proofs.spread.Statement.{statement}
 use Rattle.forcing.proofs.spread.Tie as tie
-use Rattle.forcing.proofs.spread.Reads as reads
-use Rattle.forcing.proofs.spread.Lts as lts
-use Rattle.forcing.proofs.fewer.Reads as fewer-reads
-use Rattle.forcing.proofs.force_if.Reads as force-if-reads
-use Rattle.following.proofs.other.Reads as other-reads
 
 abbrev Inv-loop : tie.InvT-loop
 Inv-loop at word cut last prev put₀ trail₀ n count₀ far₀ seen₀ put trail count far seen = Trail (length word) put trail far × Root (pairsOf at word cut) (of put) × (length count ≡ length word)
@@ -49,30 +42,24 @@ low c =
     let e = inv .0 .inside _ (t .loop-test .taken) in
     rw (c .other .ensures) (other-inside (start (t .before) .pre .0 .card) e (inv .1 .closed .allowed _ e (inv .0 .placed _ (t .loop-test .taken))))
 
--- src/lib.rt:661:5
 loop-holds : tie.Need-loop-holds Inv-loop μ-loop
 loop-holds c = let pre = c .before .before .before .before .before .before .before .pre in (pre .0 .shape, pre .1 .0, pre .1 .1)
 
--- src/lib.rt:662:17
 mul-e : tie.Need-mul-e Inv-loop μ-loop
 mul-e c = omega (arith, c .loop-test .taken, c .before .loop .inv .0 .count, start (c .before) .good)
 
--- src/lib.rt:662:17
 slice-read-e : tie.Need-slice-read-e Inv-loop μ-loop
 slice-read-e c = let t = c .before in omega (arith, t .loop-test .taken, t .before .loop .inv .0 .count, t .before .loop .inv .0 .trails)
 
--- src/lib.rt:663:17
 mul-p : tie.Need-mul-p Inv-loop μ-loop
 mul-p c = let t = c .before in omega (arith, t .before .loop .inv .0 .inside _ (t .loop-test .taken), start (t .before) .good)
 
--- src/lib.rt:663:17
 slice-read-p : tie.Need-slice-read-p Inv-loop μ-loop
 slice-read-p c =
     let t = read c in
     let shape = t .before .loop .inv .0 in
     omega (arith, shape .inside _ (t .loop-test .taken), shape .puts)
 
--- src/lib.rt:664:13
 other-requires : tie.Need-other-requires Inv-loop μ-loop
 other-requires c κs =
     let t = read c in
@@ -80,11 +67,9 @@ other-requires c κs =
     let low = inv .0 .inside _ (t .loop-test .taken) in
     other-asks (start (t .before) .pre .0 .card) low (inv .1 .closed .allowed _ low (inv .0 .placed _ (t .loop-test .taken)))
 
--- src/lib.rt:665:13
 fewer-requires : tie.Need-fewer-requires Inv-loop μ-loop
 fewer-requires c κs = let o = found c in rw (read (o .before) .before .loop .inv .2) (low o)
 
--- src/lib.rt:666:13
 force-if-requires : tie.Need-force-if-requires Inv-loop μ-loop
 force-if-requires c κs =
     let o = found (counted c .before) in
@@ -93,56 +78,45 @@ force-if-requires c κs =
     let inv = t .before .loop .inv in
     (record { card = pre .0 .card; links = pre .0 .links; shape = inv .0 }, (inv .1, low o))
 
--- src/lib.rt:669:13
 add-seen : tie.Need-add-seen Inv-loop μ-loop
 add-seen c = let t = turn (called (c .before)) in omega (arith, t .loop-test .taken, t .before .loop .inv .0 .count, start (t .before) .good)
 
--- src/lib.rt:661:5
 loop-less : tie.Need-loop-less Inv-loop μ-loop
 loop-less c = let t = turn (called (c .before)) in omega (arith, t .loop-test .taken, t .before .loop .inv .0 .count)
 
--- src/lib.rt:661:5
 loop-again : tie.Need-loop-again Inv-loop μ-loop
 loop-again c =
     let d = called (c .before) in
     let g = d .force-if .ensures in
     (g .shape, g .good (c .if1 .taken), counted (d .before) .fewer .ensures ∙ turn d .before .loop .inv .2)
 
--- src/lib.rt:671:13
 same-length : tie.Need-same-length Inv-loop μ-loop
 same-length c =
     let d = called (c .before) in
     d .force-if .ensures .shape .puts ∙ sym (start (turn d .before) .pre .0 .shape .puts)
 
--- src/lib.rt:671:13
 same-length-2 : tie.Need-same-length-2 Inv-loop μ-loop
 same-length-2 c =
     let d = called (c .before) in
     d .force-if .ensures .shape .trails ∙ sym (start (turn d .before) .pre .0 .shape .trails)
 
--- src/lib.rt:671:13
 same-length-3 : tie.Need-same-length-3 Inv-loop μ-loop
 same-length-3 c =
     let d = called (c .before) in
     counted (d .before) .fewer .ensures ∙ turn d .before .loop .inv .2 ∙ sym (start (turn d .before) .pre .1 .1)
 
--- src/lib.rt:671:13
 returns : tie.Need-returns Inv-loop μ-loop
 returns c = called (c .before) .force-if .ensures
 
--- src/lib.rt:653:1
 same-length-4 : tie.Need-same-length-4 Inv-loop μ-loop
 same-length-4 c = c .before .loop .inv .0 .puts ∙ sym (start (c .before) .pre .0 .shape .puts)
 
--- src/lib.rt:653:1
 same-length-5 : tie.Need-same-length-5 Inv-loop μ-loop
 same-length-5 c = c .before .loop .inv .0 .trails ∙ sym (start (c .before) .pre .0 .shape .trails)
 
--- src/lib.rt:653:1
 same-length-6 : tie.Need-same-length-6 Inv-loop μ-loop
 same-length-6 c = c .before .loop .inv .2 ∙ sym (start (c .before) .pre .1 .1)
 
--- src/lib.rt:653:1
 returns-2 : tie.Need-returns-2 Inv-loop μ-loop
 returns-2 c = record { shape = c .before .loop .inv .0; good = λ _. c .before .loop .inv .1; bad = λ x. absurd (true≢false x) }
 

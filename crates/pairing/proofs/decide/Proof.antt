@@ -1,14 +1,8 @@
 -- `pairing::decide` meets its contract: the calls in a row (proofs/Built.antt). Assumes nothing.
-use mathlib.Core.Path.{_≡_, refl, sym, ap, _∙_}
 use Rattle.pairing.proofs.Built.{rooted, builds-found, builds-none}
 use borrow.Author.Needs.{needs}
 use Rattle.pairing.proofs.decide.Statement.{statement}
 use Rattle.pairing.proofs.decide.Tie as tie
-use Rattle.pairing.proofs.decide.Reads as reads
-use Rattle.pairing.proofs.decide.Lts as lts
-use Rattle.choosing.proofs.choose_all.Reads as choose-all-reads
-use Rattle.forcing.proofs.root.Reads as root-reads
-use Rattle.forcing.proofs.settle_all.Reads as settle-all-reads
 
 abbrev start : tie.After-root → tie.Start
 start c = c .before .before .before .before .before .before .before .before .before .before .before .before
@@ -28,11 +22,9 @@ settled c = c .before .before .before .before
 abbrev past-chosen : tie.After-settle-all → tie.Then2
 past-chosen c = c .before .before .before
 
--- src/lib.rt:774:9
 root-requires : tie.Need-root-requires
 root-requires c κs = search needs
 
--- src/lib.rt:776:13
 choose-all-requires : tie.Need-choose-all-requires
 choose-all-requires c κs =
     let t = c .before .before .before in
@@ -40,7 +32,6 @@ choose-all-requires c κs =
     let pre = start g .pre in
     rooted (start g .args .words .now) (pre .0 .card) (pre .0 .links) (g .root .ensures) (t .if1 .taken) (pre .1 .1 .1)
 
--- src/lib.rt:778:16
 settle-all-requires : tie.Need-settle-all-requires
 settle-all-requires c κs =
     let t = c .before .before in
@@ -48,82 +39,63 @@ settle-all-requires c κs =
     let pre = start (root-of (past-root g .before)) .pre in
     (record { card = pre .0 .card; links = pre .0 .links; shape = g .choose-all .ensures .shape }, g .choose-all .ensures .good (t .if2 .taken) .closed)
 
--- src/lib.rt:779:17
 same-length : tie.Need-same-length
 same-length c = search needs
 
--- src/lib.rt:779:17
 same-length-2 : tie.Need-same-length-2
 same-length-2 c = search needs
 
--- src/lib.rt:779:17
 same-length-3 : tie.Need-same-length-3
 same-length-3 c = search needs
 
--- src/lib.rt:779:17
 same-length-4 : tie.Need-same-length-4
 same-length-4 c = search needs
 
--- src/lib.rt:779:17
 returns : tie.Need-returns
 returns c =
     let d = settled (c .before) in
     let t = past-chosen d in
     builds-found (chosen (t .before) .choose-all .ensures) (t .if2 .taken) (d .settle-all .ensures) (c .if3 .taken)
 
--- src/lib.rt:768:1
 same-length-5 : tie.Need-same-length-5
 same-length-5 c = search needs
 
--- src/lib.rt:768:1
 same-length-6 : tie.Need-same-length-6
 same-length-6 c = search needs
 
--- src/lib.rt:768:1
 same-length-7 : tie.Need-same-length-7
 same-length-7 c = search needs
 
--- src/lib.rt:768:1
 same-length-8 : tie.Need-same-length-8
 same-length-8 c = search needs
 
--- src/lib.rt:768:1
 returns-2 : tie.Need-returns-2
 returns-2 c = builds-none (settled (c .before) .settle-all .ensures .bad (c .if3 .left))
 
--- src/lib.rt:768:1
 same-length-9 : tie.Need-same-length-9
 same-length-9 c = search needs
 
--- src/lib.rt:768:1
 same-length-10 : tie.Need-same-length-10
 same-length-10 c = search needs
 
--- src/lib.rt:768:1
 same-length-11 : tie.Need-same-length-11
 same-length-11 c = search needs
 
--- src/lib.rt:768:1
 same-length-12 : tie.Need-same-length-12
 same-length-12 c = search needs
 
--- src/lib.rt:768:1
 returns-3 : tie.Need-returns-3
 returns-3 c = builds-none (chosen (c .before) .choose-all .ensures .bad (c .if2 .left))
 
--- src/lib.rt:768:1
 same-length-13 : tie.Need-same-length-13
 same-length-13 c = search needs
 
--- src/lib.rt:768:1
 same-length-14 : tie.Need-same-length-14
 same-length-14 c = search needs
 
--- src/lib.rt:768:1
 same-length-15 : tie.Need-same-length-15
 same-length-15 c = search needs
 
--- src/lib.rt:768:1
 returns-4 : tie.Need-returns-4
 returns-4 c = builds-none (root-of (c .before) .root .ensures .bad (c .if1 .left))
 

@@ -1,15 +1,10 @@
 -- `pairing::from_lists` meets its contract. Assumes nothing.
-use mathlib.Core.Path.{_≡_, sym, ap, _∙_}
+use mathlib.Core.Path.{sym, ap, _∙_}
 use Prim.Native.Nat.{ℕ, _*_}
 use borrow.Author.Needs.{needs}
 use Rattle.pairing.proofs.CardLaws.{card-of, gives}
 use Rattle.pairing.proofs.from_lists.Statement.{statement}
 use Rattle.pairing.proofs.from_lists.Tie as tie
-use Rattle.pairing.proofs.from_lists.Reads as reads
-use Rattle.pairing.proofs.from_lists.Lts as lts
-use Rattle.entries.proofs.words_of.Reads as words-of-reads
-use Rattle.pairing.proofs.from_places.Reads as from-places-reads
-use Rattle.pairing.proofs.places.Reads as places-reads
 
 abbrev start : tie.After-words-of → tie.Start
 start c = c .before .before .before .before .before .before .before .before .before .before .before
@@ -23,21 +18,17 @@ placed c = c .before .before .before .before .before .before .before .before .be
 abbrev built : tie.After-slice-known14 → tie.After-from-places
 built c = c .before .before .before .before .before .before .before .before .before .before .before .before
 
--- src/lib.rt:147:33
 sub-words-of : tie.Need-sub-words-of
 sub-words-of c = search needs
 
--- src/lib.rt:147:9
 words-of-requires : tie.Need-words-of-requires
 words-of-requires c κs = search needs
 
--- src/lib.rt:148:5
 places-requires : tie.Need-places-requires
 places-requires c κs =
     let pre = start (c .before) .pre in
     (pre .0 .twos-too ∙ sym (pre .0 .ones-too), pre .1 .in-at ∙ ap (λ (n : ℕ). 2 * n) (sym (pre .0 .ones-too)))
 
--- src/lib.rt:149:5
 from-places-requires : tie.Need-from-places-requires
 from-places-requires c κs =
     let p = placed c in
@@ -45,35 +36,27 @@ from-places-requires c κs =
     let card = card-of (pre .0) (p .places .ensures) (cut p .words-of .ensures) in
     (card, (pre .1 .in-last, pre .1 .in-prev ∙ sym (card .slots), pre .1 .in-put, pre .1 .in-trail, pre .1 .in-first, pre .1 .in-count))
 
--- src/lib.rt:123:1
 same-length : tie.Need-same-length
 same-length c = search needs
 
--- src/lib.rt:123:1
 same-length-2 : tie.Need-same-length-2
 same-length-2 c = search needs
 
--- src/lib.rt:123:1
 same-length-3 : tie.Need-same-length-3
 same-length-3 c = search needs
 
--- src/lib.rt:123:1
 same-length-4 : tie.Need-same-length-4
 same-length-4 c = search needs
 
--- src/lib.rt:123:1
 same-length-5 : tie.Need-same-length-5
 same-length-5 c = search needs
 
--- src/lib.rt:123:1
 same-length-6 : tie.Need-same-length-6
 same-length-6 c = search needs
 
--- src/lib.rt:123:1
 same-length-7 : tie.Need-same-length-7
 same-length-7 c = search needs
 
--- src/lib.rt:123:1
 returns : tie.Need-returns
 returns c =
     let b = built c in

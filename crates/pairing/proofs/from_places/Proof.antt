@@ -1,15 +1,10 @@
 -- `pairing::from_places` meets its contract: the lists made, and then `decide` (proofs/Built.antt). Assumes nothing.
-use mathlib.Core.Path.{_≡_, refl, sym, ap, _∙_}
+use mathlib.Core.Path.{sym, ap, _∙_}
 use lib.ListN.{length, length-replicate}
 use Rattle.pairing.proofs.Built.{link-asks, begin}
 use borrow.Author.Needs.{needs}
 use Rattle.pairing.proofs.from_places.Statement.{statement}
 use Rattle.pairing.proofs.from_places.Tie as tie
-use Rattle.pairing.proofs.from_places.Reads as reads
-use Rattle.pairing.proofs.from_places.Lts as lts
-use Rattle.pairing.proofs.decide.Reads as decide-reads
-use Rattle.forcing.proofs.fill.Reads as fill-reads
-use Rattle.pairing.proofs.link.Reads as link-reads
 
 abbrev start : tie.After-fill → tie.Start
 start c = c .before .before .before .before .before .before .before .before .before .before
@@ -21,22 +16,18 @@ zeroed c = c .before .before .before .before .before
 abbrev linked : tie.After-fill2 → tie.After-link
 linked c = c .before .before .before .before .before .before
 
--- src/lib.rt:798:5
 fill-requires : tie.Need-fill-requires
 fill-requires c κs = search needs
 
--- src/lib.rt:799:5
 link-requires : tie.Need-link-requires
 link-requires c κs =
     let f = c .before .before .before .before in
     let pre = start f .pre in
     link-asks (start f .args .last .now) (start f .args .prev .now) (pre .0) (pre .1 .0) (pre .1 .1) (f .fill .ensures)
 
--- src/lib.rt:800:5
 fill-requires-2 : tie.Need-fill-requires-2
 fill-requires-2 c κs = search needs
 
--- src/lib.rt:801:5
 decide-requires : tie.Need-decide-requires
 decide-requires c κs =
     let b = c .before .before .before .before .before .before .before .before in
@@ -45,31 +36,24 @@ decide-requires c κs =
     begin (start (zeroed l) .args .put .now) (start (zeroed l) .args .count .now) (start (zeroed l) .args .words .now) (pre .0) (l .link .ensures (start (zeroed l) .args .word .now) (sym (pre .1 .0) ∙ sym (length-replicate (length (start (zeroed l) .args .last .now)) 0) ∙ sym (ap length (zeroed l .fill .ensures))))
     (pre .1 .2) (pre .1 .3) (pre .1 .4) (pre .1 .5) (b .fill2 .ensures)
 
--- src/lib.rt:793:1
 same-length : tie.Need-same-length
 same-length c = search needs
 
--- src/lib.rt:793:1
 same-length-2 : tie.Need-same-length-2
 same-length-2 c = search needs
 
--- src/lib.rt:793:1
 same-length-3 : tie.Need-same-length-3
 same-length-3 c = search needs
 
--- src/lib.rt:793:1
 same-length-4 : tie.Need-same-length-4
 same-length-4 c = search needs
 
--- src/lib.rt:793:1
 same-length-5 : tie.Need-same-length-5
 same-length-5 c = search needs
 
--- src/lib.rt:793:1
 same-length-6 : tie.Need-same-length-6
 same-length-6 c = search needs
 
--- src/lib.rt:793:1
 returns : tie.Need-returns
 returns c = search needs
 

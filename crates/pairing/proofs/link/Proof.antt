@@ -1,16 +1,11 @@
 -- `pairing::link` meets its contract. The loop's invariant is `Linking` of proofs/Linked.antt. Assumes nothing.
-use mathlib.Core.Path.{_≡_, refl, sym, ap, _∙_}
-use mathlib.Core.Bool.{true, false}
-use mathlib.Core.Logic.{_⊎_, inl, inr, ⊎-elim}
-use Prim.Native.Nat.{ℕ, _+_, _-_, _/_, _<_, _≤_}
+use Prim.Native.Nat.{_-_, _<_}
 use native.Mathlib.Omega.{arith}
-use lib.ListN.{length, getD, set, replicate, drop, length-set, length-replicate}
+use lib.ListN.{length, getD}
 use borrow.Author.Needs.{needs}
 use Rattle.pairing.proofs.Linked.{Linking, linking-start, linking-more, linking-end}
 use Rattle.pairing.proofs.link.Statement.{statement}
 use Rattle.pairing.proofs.link.Tie as tie
-use Rattle.pairing.proofs.link.Reads as reads
-use Rattle.pairing.proofs.link.Lts as lts
 
 abbrev Inv-loop : tie.InvT-loop
 Inv-loop at last₀ prev₀ x₀ last prev x = Linking at last₀ prev₀ last prev x
@@ -22,71 +17,55 @@ abbrev μ-loop : tie.MeasureT-loop
 low : (c : tie.In-loop Inv-loop μ-loop) → getD (c .before .before .args .at .now) (c .before .loop .x) 0 < length (c .before .before .args .last .now)
 low c = c .before .before .pre .0 (c .before .loop .x) (c .loop-test .taken)
 
--- src/lib.rt:542:5
 loop-holds : tie.Need-loop-holds Inv-loop μ-loop
 loop-holds c = linking-start (c .pre .2)
 
--- src/lib.rt:543:17
 mul-t : tie.Need-mul-t Inv-loop μ-loop
 mul-t c = search needs
 
--- src/lib.rt:543:17
 shared-slice-read-t : tie.Need-shared-slice-read-t Inv-loop μ-loop
 shared-slice-read-t c = search needs
 
--- src/lib.rt:544:19
 mul-prev : tie.Need-mul-prev Inv-loop μ-loop
 mul-prev c = omega (arith, low (c .before), c .before .before .loop .inv .lasts)
 
--- src/lib.rt:544:19
 slice-read-prev : tie.Need-slice-read-prev Inv-loop μ-loop
 slice-read-prev c = omega (arith, low (c .before .before), c .before .before .before .loop .inv .lasts)
 
--- src/lib.rt:544:9
 mul-prev-2 : tie.Need-mul-prev-2 Inv-loop μ-loop
 mul-prev-2 c = search needs
 
--- src/lib.rt:544:9
 slice-write-prev : tie.Need-slice-write-prev Inv-loop μ-loop
 slice-write-prev c =
     let t = c .before .before in
     omega (arith, t .loop-test .taken, t .before .loop .inv .prevs, t .before .before .pre .1)
 
--- src/lib.rt:545:19
 add-last : tie.Need-add-last Inv-loop μ-loop
 add-last c = search needs
 
--- src/lib.rt:545:9
 mul-last : tie.Need-mul-last Inv-loop μ-loop
 mul-last c = omega (arith, low (c .before .before), c .before .before .before .loop .inv .lasts)
 
--- src/lib.rt:545:9
 slice-write-last : tie.Need-slice-write-last Inv-loop μ-loop
 slice-write-last c = omega (arith, low (c .before .before), c .before .before .before .loop .inv .lasts)
 
--- src/lib.rt:546:9
 add-x : tie.Need-add-x Inv-loop μ-loop
 add-x c = search needs
 
--- src/lib.rt:542:5
 loop-less : tie.Need-loop-less Inv-loop μ-loop
 loop-less c = search needs
 
--- src/lib.rt:542:5
 loop-again : tie.Need-loop-again Inv-loop μ-loop
 loop-again c =
     let t = c .before .before in
     linking-more (t .before .loop .inv) (t .loop-test .taken) (low t) (t .before .before .pre .1)
 
--- src/lib.rt:537:1
 same-length : tie.Need-same-length Inv-loop μ-loop
 same-length c = c .before .loop .inv .lasts
 
--- src/lib.rt:537:1
 same-length-2 : tie.Need-same-length-2 Inv-loop μ-loop
 same-length-2 c = c .before .loop .inv .prevs
 
--- src/lib.rt:537:1
 returns : tie.Need-returns Inv-loop μ-loop
 returns c = linking-end (c .before .loop .inv) (c .loop-test .left) (c .before .before .pre .1)
 

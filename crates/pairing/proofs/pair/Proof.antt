@@ -1,13 +1,9 @@
 -- `pairing::pair` meets its contract. Assumes nothing.
-use mathlib.Core.Path.{_≡_, sym, _∙_}
-use lib.ListN.{length}
+use mathlib.Core.Path.{sym}
 use lib.Seq.{length-take-le, take-at}
 use borrow.Author.Needs.{needs}
 use Rattle.pairing.proofs.pair.Statement.{statement}
 use Rattle.pairing.proofs.pair.Tie as tie
-use Rattle.pairing.proofs.pair.Reads as reads
-use Rattle.pairing.proofs.pair.Lts as lts
-use Rattle.pairing.proofs.from_lists.Reads as from-lists-reads
 
 abbrev start : tie.After-slice-known7 → tie.Start
 start c = c .before .before .before .before .before .before .before .before .before .before
@@ -18,71 +14,54 @@ asked c = c .before .before .before .before .before .before .before
 abbrev built : tie.After-slice-known14 → tie.After-from-lists
 built c = c .before .before .before .before .before .before .before .before .before .before .before .before .before .before
 
--- src/lib.rt:184:19
 mul-from-lists : tie.Need-mul-from-lists
 mul-from-lists c = search needs
 
--- src/lib.rt:184:9
 slice-relend-prefix-from-lists : tie.Need-slice-relend-prefix-from-lists
 slice-relend-prefix-from-lists c = search needs
 
--- src/lib.rt:184:9
 slice-aggregate-from-lists : tie.Need-slice-aggregate-from-lists
 slice-aggregate-from-lists c = sym (length-take-le _ _ (start (c .before) .pre .1 .in-at))
 
--- src/lib.rt:185:9
 slice-relend-prefix-from-lists-2 : tie.Need-slice-relend-prefix-from-lists-2
 slice-relend-prefix-from-lists-2 c = search needs
 
--- src/lib.rt:185:9
 slice-aggregate-from-lists-2 : tie.Need-slice-aggregate-from-lists-2
 slice-aggregate-from-lists-2 c = sym (length-take-le _ _ (start (c .before .before) .pre .1 .in-last))
 
--- src/lib.rt:186:21
 mul-from-lists-2 : tie.Need-mul-from-lists-2
 mul-from-lists-2 c = search needs
 
--- src/lib.rt:186:9
 slice-relend-prefix-from-lists-3 : tie.Need-slice-relend-prefix-from-lists-3
 slice-relend-prefix-from-lists-3 c = search needs
 
--- src/lib.rt:186:9
 slice-aggregate-from-lists-3 : tie.Need-slice-aggregate-from-lists-3
 slice-aggregate-from-lists-3 c = sym (length-take-le _ _ (start (c .before .before .before) .pre .1 .in-prev))
 
--- src/lib.rt:187:9
 slice-relend-prefix-from-lists-4 : tie.Need-slice-relend-prefix-from-lists-4
 slice-relend-prefix-from-lists-4 c = search needs
 
--- src/lib.rt:187:9
 slice-aggregate-from-lists-4 : tie.Need-slice-aggregate-from-lists-4
 slice-aggregate-from-lists-4 c = sym (length-take-le _ _ (start (c .before .before .before .before) .pre .1 .in-put))
 
--- src/lib.rt:188:9
 slice-relend-prefix-from-lists-5 : tie.Need-slice-relend-prefix-from-lists-5
 slice-relend-prefix-from-lists-5 c = search needs
 
--- src/lib.rt:188:9
 slice-aggregate-from-lists-5 : tie.Need-slice-aggregate-from-lists-5
 slice-aggregate-from-lists-5 c = sym (length-take-le _ _ (start (c .before .before .before .before .before) .pre .1 .in-trail))
 
--- src/lib.rt:189:9
 slice-relend-prefix-from-lists-6 : tie.Need-slice-relend-prefix-from-lists-6
 slice-relend-prefix-from-lists-6 c = search needs
 
--- src/lib.rt:189:9
 slice-aggregate-from-lists-6 : tie.Need-slice-aggregate-from-lists-6
 slice-aggregate-from-lists-6 c = sym (length-take-le _ _ (start (c .before .before .before .before .before .before) .pre .1 .in-count))
 
--- src/lib.rt:190:9
 slice-relend-prefix-from-lists-7 : tie.Need-slice-relend-prefix-from-lists-7
 slice-relend-prefix-from-lists-7 c = search needs
 
--- src/lib.rt:190:9
 slice-aggregate-from-lists-7 : tie.Need-slice-aggregate-from-lists-7
 slice-aggregate-from-lists-7 c = sym (length-take-le _ _ (start (c .before .before .before .before .before .before .before) .pre .1 .in-first))
 
--- src/lib.rt:179:5
 from-lists-requires : tie.Need-from-lists-requires
 from-lists-requires c κs =
     let pre = start (asked c) .pre in
@@ -99,35 +78,27 @@ from-lists-requires c κs =
       },
     )
 
--- src/lib.rt:154:1
 same-length : tie.Need-same-length
 same-length c = search needs
 
--- src/lib.rt:154:1
 same-length-2 : tie.Need-same-length-2
 same-length-2 c = search needs
 
--- src/lib.rt:154:1
 same-length-3 : tie.Need-same-length-3
 same-length-3 c = search needs
 
--- src/lib.rt:154:1
 same-length-4 : tie.Need-same-length-4
 same-length-4 c = search needs
 
--- src/lib.rt:154:1
 same-length-5 : tie.Need-same-length-5
 same-length-5 c = search needs
 
--- src/lib.rt:154:1
 same-length-6 : tie.Need-same-length-6
 same-length-6 c = search needs
 
--- src/lib.rt:154:1
 same-length-7 : tie.Need-same-length-7
 same-length-7 c = search needs
 
--- src/lib.rt:154:1
 returns : tie.Need-returns
 returns c =
     let b = built c in

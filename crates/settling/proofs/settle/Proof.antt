@@ -1,18 +1,13 @@
--- `forcing::settle` meets its contract: place one, and where that fails, undone, place two (proofs/Settled.antt). Assumes nothing.
-use mathlib.Core.Path.{_≡_, refl, sym, ap, _∙_}
-use mathlib.Core.Logic.{_⊎_, inl, inr}
-use Prim.Native.Nat.{ℕ, _+_, _-_, _<_, _≤_}
+-- `settling::settle` meets its contract: place one, and where that fails, undone, place two (proofs/Settled.antt). Assumes nothing.
+use mathlib.Core.Path.{refl}
+use mathlib.Core.Logic.{inl, inr}
+use Prim.Native.Nat.{_-_}
 use native.Mathlib.Omega.{arith}
-use Rattle.following.specs.Following.{Attempt, pairsOf}
 use Rattle.following.proofs.Forcing.{one-inside, two-inside}
-use Rattle.forcing.proofs.Settled.{settles-had, settles-one, settles-two, undone}
+use Rattle.settling.proofs.Settled.{settles-had, settles-one, settles-two, undone}
 use borrow.Author.Needs.{needs}
-use Rattle.forcing.proofs.settle.Statement.{statement}
-use Rattle.forcing.proofs.settle.Tie as tie
-use Rattle.forcing.proofs.settle.Reads as reads
-use Rattle.forcing.proofs.settle.Lts as lts
-use Rattle.following.proofs.follow.Reads as follow-reads
-use Rattle.following.proofs.undo.Reads as undo-reads
+use Rattle.settling.proofs.settle.Statement.{statement}
+use Rattle.settling.proofs.settle.Tie as tie
 
 abbrev entered : tie.After-slice-known3 → tie.Start
 entered c = c .before .before .before .before .before .before .before
@@ -34,70 +29,55 @@ undid c = c .before .before .before .before
 abbrev failed : tie.After-undo-arg2 → tie.Else2
 failed c = c .before .before
 
--- src/lib.rt:215:8
 mul-if1 : tie.Need-mul-if1
 mul-if1 c = search needs
 
--- src/lib.rt:215:8
 slice-read-if1 : tie.Need-slice-read-if1
 slice-read-if1 c = search needs
 
--- src/lib.rt:216:9
 returns : tie.Need-returns
 returns c = let pre = entered (c .before) .pre in settles-had (pre .0 .shape) (pre .1 .0) (c .if1 .taken)
 
--- src/lib.rt:221:16
 mul-slot : tie.Need-mul-slot
 mul-slot c = search needs
 
--- src/lib.rt:222:15
 mul-one : tie.Need-mul-one
 mul-one c = search needs
 
--- src/lib.rt:222:15
 shared-slice-read-one : tie.Need-shared-slice-read-one
 shared-slice-read-one c = search needs
 
--- src/lib.rt:223:18
 add-two : tie.Need-add-two
 add-two c = search needs
 
--- src/lib.rt:223:15
 mul-two : tie.Need-mul-two
 mul-two c = search needs
 
--- src/lib.rt:223:15
 shared-slice-read-two : tie.Need-shared-slice-read-two
 shared-slice-read-two c = search needs
 
--- src/lib.rt:224:9
 follow-requires : tie.Need-follow-requires
 follow-requires c κs =
     let pre = start (tested c) .pre in
     (pre .0, (pre .1 .0, (pre .1 .1, tested c .if1 .left, one-inside (pre .0 .card) (pre .1 .1), inl refl)))
 
--- src/lib.rt:226:9
 same-length : tie.Need-same-length
 same-length c = search needs
 
--- src/lib.rt:226:9
 same-length-2 : tie.Need-same-length-2
 same-length-2 c = search needs
 
--- src/lib.rt:226:9
 returns-2 : tie.Need-returns-2
 returns-2 c =
     let f = one (c .before) in
     let pre = start (tested (f .before)) .pre in
     settles-one (pre .0 .shape) (pre .1 .0) (pre .1 .1) (one-inside (pre .0 .card) (pre .1 .1)) (c .if2 .taken) (f .follow .ensures)
 
--- src/lib.rt:228:5
 undo-requires : tie.Need-undo-requires
 undo-requires c κs =
     let shape = one (failed c .before) .follow .ensures .shape in
     (omega (arith, shape .count, shape .trails), λ i h. rw (shape .puts) (shape .inside i h))
 
--- src/lib.rt:229:5
 follow-requires-2 : tie.Need-follow-requires-2
 follow-requires-2 c κs =
     let u = undid c in
@@ -110,15 +90,12 @@ follow-requires-2 c κs =
     let back = undone (pre .0 .shape) (pre .1 .0) (pre .1 .1) first second (d .if2 .left) (f .follow .ensures) (u .undo .ensures) in
     (record { card = pre .0 .card; links = pre .0 .links; shape = back .shape }, (rw (back .same) (pre .1 .0), (pre .1 .1, rw (back .same) (t .if1 .left), second, inr refl)))
 
--- src/lib.rt:209:1
 same-length-3 : tie.Need-same-length-3
 same-length-3 c = search needs
 
--- src/lib.rt:209:1
 same-length-4 : tie.Need-same-length-4
 same-length-4 c = search needs
 
--- src/lib.rt:209:1
 returns-3 : tie.Need-returns-3
 returns-3 c =
     let g = c .before .before .before .before in

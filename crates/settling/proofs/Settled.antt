@@ -1,17 +1,16 @@
 -- Laws of giving every entry a place. No contract cites this file. Assumes nothing.
-use mathlib.Core.Path.{_≡_, refl, sym, ap, _∙_}
+use mathlib.Core.Path.{_≡_, refl, sym, _∙_}
 use mathlib.Core.Bool.{Bool, true, false, true≢false}
 use mathlib.Core.List.{List}
-use mathlib.Core.Logic.{_≢_, _⊎_, inl, inr, ⊎-elim, by-cases}
-use Prim.Native.Nat.{ℕ, _+_, _*_, _<_, _≤_}
+use mathlib.Core.Logic.{_≢_, by-cases}
+use Prim.Native.Nat.{ℕ, _+_, _<_, _≤_}
 use native.Mathlib.Omega.{arith}
 use native.Mathlib.Decide.{ℕ-discrete}
-use lib.ListN.{length}
-use Rattle.pairs.specs.Arranged.{Pairs, Stands, Arranged}
-use Rattle.pairs.specs.Chosen.{Agrees, Closed, Followed, Refuted}
+use Rattle.pairs.specs.Arranged.{Pairs}
+use Rattle.pairs.specs.Chosen.{Agrees, Closed}
 use Rattle.following.specs.Following.{Trail, Follows, Undone, Attempt, of}
 use Rattle.pairs.specs.Chosen.{NoBuild}
-use Rattle.forcing.specs.Forcing.{Settles, SettlesAll}
+use Rattle.settling.specs.Settling.{Settles, SettlesAll}
 use Rattle.pairs.proofs.Extends.{neither, all-placed}
 use Rattle.following.proofs.Forcing.{attempted}
 

@@ -1,15 +1,12 @@
--- `forcing::settle_all` meets its contract. The loop's invariant is `Settling` of proofs/Settled.antt. Assumes nothing.
-use mathlib.Core.Path.{_≡_, refl, sym, ap, _∙_}
-use Prim.Native.Nat.{ℕ, _+_, _-_, _<_, _≤_}
+-- `settling::settle_all` meets its contract. The loop's invariant is `Settling` of proofs/Settled.antt. Assumes nothing.
+use mathlib.Core.Path.{refl, sym, _∙_}
+use Prim.Native.Nat.{_-_}
 use native.Mathlib.Omega.{arith}
 use lib.ListN.{length}
 use Rattle.following.specs.Following.{pairsOf}
-use Rattle.forcing.proofs.Settled.{Settling, settling-more, settled-all, settled-none}
-use Rattle.forcing.proofs.settle_all.Statement.{statement}
-use Rattle.forcing.proofs.settle_all.Tie as tie
-use Rattle.forcing.proofs.settle_all.Reads as reads
-use Rattle.forcing.proofs.settle_all.Lts as lts
-use Rattle.forcing.proofs.settle.Reads as settle-reads
+use Rattle.settling.proofs.Settled.{Settling, settling-more, settled-all, settled-none}
+use Rattle.settling.proofs.settle_all.Statement.{statement}
+use Rattle.settling.proofs.settle_all.Tie as tie
 
 abbrev Inv-loop : tie.InvT-loop
 Inv-loop at word cut last prev put₀ trail₀ n far₀ e₀ put trail far e = Settling (pairsOf at word cut) put₀ put trail far e
@@ -29,13 +26,11 @@ turn c = c .before .before
 abbrev called : tie.After-slice-known4 Inv-loop μ-loop → tie.After-settle Inv-loop μ-loop
 called c = c .before .before .before .before
 
--- src/lib.rt:240:5
 loop-holds : tie.Need-loop-holds Inv-loop μ-loop
 loop-holds c =
     let pre = entered c .pre in
     record { shape = pre .0 .shape; closed = pre .1; keeps = λ f p x. refl; placed = λ f l. absurd (omega arith) }
 
--- src/lib.rt:241:13
 settle-requires : tie.Need-settle-requires Inv-loop μ-loop
 settle-requires c κs =
     let t = turn c in
@@ -43,45 +38,36 @@ settle-requires c κs =
     let inv = t .before .loop .inv in
     (record { card = pre .0 .card; links = pre .0 .links; shape = inv .shape }, (inv .closed, t .loop-test .taken))
 
--- src/lib.rt:244:13
 add-e : tie.Need-add-e Inv-loop μ-loop
 add-e c = let t = turn (called (c .before) .before) in omega (arith, t .loop-test .taken, start (t .before) .good)
 
--- src/lib.rt:240:5
 loop-less : tie.Need-loop-less Inv-loop μ-loop
 loop-less c = let t = turn (called (c .before) .before) in omega (arith, t .loop-test .taken)
 
--- src/lib.rt:240:5
 loop-again : tie.Need-loop-again Inv-loop μ-loop
 loop-again c =
     let d = called (c .before) in
     settling-more (turn (d .before) .before .loop .inv) (d .settle .ensures) (c .if1 .taken)
 
--- src/lib.rt:246:13
 same-length : tie.Need-same-length Inv-loop μ-loop
 same-length c =
     let d = called (c .before) in
     d .settle .ensures .shape .puts ∙ sym (start (turn (d .before) .before) .pre .0 .shape .puts)
 
--- src/lib.rt:246:13
 same-length-2 : tie.Need-same-length-2 Inv-loop μ-loop
 same-length-2 c =
     let d = called (c .before) in
     d .settle .ensures .shape .trails ∙ sym (start (turn (d .before) .before) .pre .0 .shape .trails)
 
--- src/lib.rt:246:13
 returns : tie.Need-returns Inv-loop μ-loop
 returns c = settled-none (called (c .before) .settle .ensures .bad (c .if1 .left))
 
--- src/lib.rt:233:1
 same-length-3 : tie.Need-same-length-3 Inv-loop μ-loop
 same-length-3 c = c .before .loop .inv .shape .puts ∙ sym (start (c .before) .pre .0 .shape .puts)
 
--- src/lib.rt:233:1
 same-length-4 : tie.Need-same-length-4 Inv-loop μ-loop
 same-length-4 c = c .before .loop .inv .shape .trails ∙ sym (start (c .before) .pre .0 .shape .trails)
 
--- src/lib.rt:233:1
 returns-2 : tie.Need-returns-2 Inv-loop μ-loop
 returns-2 c = settled-all (c .before .loop .inv) (c .loop-test .left)
 
