@@ -15,7 +15,8 @@ use Rattle.following.specs.Common.{Common}
 use Rattle.pairs.proofs.Extends.{extends, over, over-agrees, filled, was-possible}
 use Rattle.following.proofs.Forcing.{stands-other, otherThan}
 use Rattle.following.proofs.CommonLaws.{common-not, common-first, common-same, common-many}
-use Rattle.pairs.proofs.Places.{OnlyNext, one-more, seen-all, tried-first, tried-fails, tried-same, tried-larger, tried-smaller, chosen-same, chosen-tried, tried-there, cleared-none, refuted-placed}
+use Rattle.pairs.proofs.Places.{OnlyNext, one-more, seen-all, tried-first, tried-fails, tried-same, tried-larger, tried-smaller}
+use Rattle.pairs.proofs.Places.{chosen-same, chosen-tried, tried-there, cleared-none, refuted-placed}
 
 -- ---- one entry more of the list
 
@@ -30,16 +31,36 @@ module _ {c : Pairs} {s : ℕ → ℕ} {t : ℕ} (l : t < c .m) {b b′ e : ℕ}
 
   module _ (r : Weighed c s t b′ w n) {g : ℕ → ℕ} (f : Followed c s e t g) where
     pub weighed-first : n ≡ 0 → Weighed c s t b (c .word e) 1
-    weighed-first z = record { none = λ y. absurd (omega arith); some = λ _. tried-first c s t l b b′ e p next g f (r .none z); few = omega arith }
+    weighed-first z =
+        record {
+          none = λ y. absurd (omega arith);
+          some = λ _. tried-first c s t l b b′ e p next g f (r .none z);
+          few = omega arith;
+        }
 
     pub weighed-same : n ≢ 0 → c .word e ≡ w → Weighed c s t b w n
-    weighed-same z x = record { none = λ y. absurd (z y); some = λ y. tried-same c s t l b b′ e p next w (n - 1) (r .some y) x; few = r .few }
+    weighed-same z x =
+        record {
+          none = λ y. absurd (z y);
+          some = λ y. tried-same c s t l b b′ e p next w (n - 1) (r .some y) x;
+          few = r .few;
+        }
 
     pub weighed-larger : n ≢ 0 → w < c .word e → Weighed c s t b w 2
-    weighed-larger z x = record { none = λ y. absurd (omega arith); some = λ y. tried-larger c s t l b b′ e p next w (n - 1) (r .some (omega (arith, z))) g f x; few = omega arith }
+    weighed-larger z x =
+        record {
+          none = λ y. absurd (omega arith);
+          some = λ y. tried-larger c s t l b b′ e p next w (n - 1) (r .some (omega (arith, z))) g f x;
+          few = omega arith;
+        }
 
     pub weighed-smaller : n ≢ 0 → c .word e < w → Weighed c s t b (c .word e) 2
-    weighed-smaller z x = record { none = λ y. absurd (omega arith); some = λ y. tried-smaller c s t l b b′ e p next w (n - 1) (r .some (omega (arith, z))) g f x; few = omega arith }
+    weighed-smaller z x =
+        record {
+          none = λ y. absurd (omega arith);
+          some = λ y. tried-smaller c s t l b b′ e p next w (n - 1) (r .some (omega (arith, z))) g f x;
+          few = omega arith;
+        }
 
 pub weighed-start : {c : Pairs} {s : ℕ → ℕ} {t b w : ℕ} → ((e : ℕ) → e < c .m → Seen c t b e → ⊥) → Weighed c s t b w 0
 weighed-start h = record { none = λ _ e p z. absurd (h e p z); some = λ z. absurd (omega arith); few = omega arith }
@@ -78,10 +99,12 @@ module _ {c : Pairs} {put trail : List ℕ} {n t : ℕ} (k : Closed c (of put)) 
         bad = λ x. absurd (true≢false x);
       }
 
-pub chooses-none : {c : Pairs} {put : List ℕ} {t w k : ℕ} {put′ trail′ : List ℕ} {n′ : ℕ} → k < 2 → Trail (c .m) put′ trail′ n′ → NoBuild c → Chooses c put t w k put′ trail′ n′ false
+pub chooses-none : {c : Pairs} {put : List ℕ} {t w k : ℕ} {put′ trail′ : List ℕ} {n′ : ℕ} → k < 2 → Trail (c .m) put′ trail′ n′
+    → NoBuild c → Chooses c put t w k put′ trail′ n′ false
 chooses-none f h x = record { shape = h; good = λ y. absurd (true≢false (sym y)); few = f; bad = λ _. x }
 
-module _ {c : Pairs} {put : List ℕ} {t w n : ℕ} (l : t < c .m) (r : Weighed c (of put) t 0 w n) (some : 0 < n) {put′ trail′ : List ℕ} {n′ : ℕ} {ok : Bool} (d : DropsAll c put t w put′ trail′ n′ ok) where
+module _ {c : Pairs} {put : List ℕ} {t w n : ℕ} (l : t < c .m) (r : Weighed c (of put) t 0 w n) (some : 0 < n) {put′ trail′ : List ℕ}
+    {n′ : ℕ} {ok : Bool} (d : DropsAll c put t w put′ trail′ n′ ok) where
   pub chooses-tried : Chooses c put t w (n - 1) put′ trail′ n′ ok
   chooses-tried =
       record {
@@ -118,7 +141,8 @@ module _ {c : Pairs} {put trail : List ℕ} {n t w e : ℕ} (h : Trail (c .m) pu
     pub only-there : otherThan c e t ≡ t → (σ : ℕ → ℕ) → Arranged c σ → Agrees c (of put) σ → σ e ≡ t
     only-there x σ a g = by-cases (ℕ-discrete (σ e) t) (λ y. y) (λ y. stands-other c st (a .allowed e ep) y ∙ x)
 
-    pub drops-follow : {q : ℕ} {put′ trail′ : List ℕ} {n′ : ℕ} {ok : Bool} → q ≡ otherThan c e t → q ≢ t → q < c .m → Follows c put trail n e q put′ trail′ n′ ok → Drops c put t w e put′ trail′ n′ ok
+    pub drops-follow : {q : ℕ} {put′ trail′ : List ℕ} {n′ : ℕ} {ok : Bool} → q ≡ otherThan c e t → q ≢ t → q < c .m
+        → Follows c put trail n e q put′ trail′ n′ ok → Drops c put t w e put′ trail′ n′ ok
     drops-follow {q} {put′} x y z v =
         record {
           shape = v .shape;
@@ -137,7 +161,8 @@ pub record Dropping (c : Pairs) (put₀ : List ℕ) (t w b : ℕ) (put trail : L
   pub shape : Trail (c .m) put trail n
   pub cleared : Cleared c (of put₀) t b w (of put)
 
-module _ {c : Pairs} {put₀ : List ℕ} {t w b b′ e : ℕ} (l : t < c .m) (p : e < c .m) (next : OnlyNext c (of put₀) t l b b′ e) {put trail : List ℕ} {n : ℕ} (r : Dropping c put₀ t w b′ put trail n)
+module _ {c : Pairs} {put₀ : List ℕ} {t w b b′ e : ℕ} (l : t < c .m) (p : e < c .m) (next : OnlyNext c (of put₀) t l b b′ e)
+    {put trail : List ℕ} {n : ℕ} (r : Dropping c put₀ t w b′ put trail n)
     {put′ trail′ : List ℕ} {n′ : ℕ} {ok : Bool} (d : Drops c put t w e put′ trail′ n′ ok) where
   pub dropping-more : ok ≡ true → Dropping c put₀ t w b put′ trail′ n′
   dropping-more h =
@@ -153,20 +178,34 @@ module _ {c : Pairs} {put₀ : List ℕ} {t w b b′ e : ℕ} (l : t < c .m) (p 
       }
     where
       old : (f : ℕ) → f < c .m → Seen c t b′ f → Possible c (of put′) t f → c .word f ≡ w
-      old f q z (st, inl u) = r .cleared .out f q z (st, by-cases (decLt (of put f) (c .m)) (λ i. absurd (omega (arith, d .keeps f q i))) (λ i. inl (omega arith)))
-      old f q z (st, inr u) = r .cleared .out f q z (st, by-cases (decLt (of put f) (c .m)) (λ i. inr (sym (d .keeps f q i) ∙ u)) (λ i. inl (omega arith)))
+      old f q z (st, inl u) = r .cleared .out f q z
+          (st, by-cases (decLt (of put f) (c .m)) (λ i. absurd (omega (arith, d .keeps f q i))) (λ i. inl (omega arith)))
+      old f q z (st, inr u) = r .cleared .out f q z
+          (st, by-cases (decLt (of put f) (c .m)) (λ i. inr (sym (d .keeps f q i) ∙ u)) (λ i. inl (omega arith)))
 
   pub dropping-stops : ok ≡ false → DropsAll c put₀ t w put′ trail′ n′ ok
-  dropping-stops h = record { shape = d .shape; good = λ x. absurd (true≢false (sym x ∙ h)); bad = λ _ σ a g z. d .bad h σ a (r .cleared .forced σ a g z) z }
+  dropping-stops h =
+      record {
+        shape = d .shape;
+        good = λ x. absurd (true≢false (sym x ∙ h));
+        bad = λ _ σ a g z. d .bad h σ a (r .cleared .forced σ a g z) z;
+      }
 
-pub dropping-start : {c : Pairs} {put : List ℕ} {t w b : ℕ} {trail : List ℕ} {n : ℕ} → Closed c (of put) → Trail (c .m) put trail n → ((e : ℕ) → e < c .m → Seen c t b e → ⊥) → Dropping c put t w b put trail n
+pub dropping-start : {c : Pairs} {put : List ℕ} {t w b : ℕ} {trail : List ℕ} {n : ℕ} → Closed c (of put) → Trail (c .m) put trail n
+    → ((e : ℕ) → e < c .m → Seen c t b e → ⊥) → Dropping c put t w b put trail n
 dropping-start {c} {put} {t} {w} {b} k h x = record { shape = h; cleared = cleared-none c (of put) t b w k x }
 
-pub dropping-end : {c : Pairs} {put₀ : List ℕ} {t w b : ℕ} {put trail : List ℕ} {n : ℕ} → b ≤ 0 → Dropping c put₀ t w b put trail n → DropsAll c put₀ t w put trail n true
+pub dropping-end : {c : Pairs} {put₀ : List ℕ} {t w b : ℕ} {put trail : List ℕ} {n : ℕ} → b ≤ 0 → Dropping c put₀ t w b put trail n
+    → DropsAll c put₀ t w put trail n true
 dropping-end {c} {t} {b} z r =
     record {
       shape = r .shape;
-      good = λ _. record { closed = r .cleared .closed; keeps = r .cleared .keeps; forced = r .cleared .forced; out = λ e p y. r .cleared .out e p (lower e y) };
+      good = λ _. record {
+        closed = r .cleared .closed;
+        keeps = r .cleared .keeps;
+        forced = r .cleared .forced;
+        out = λ e p y. r .cleared .out e p (lower e y);
+      };
       bad = λ x. absurd (true≢false x);
     }
   where
@@ -175,9 +214,11 @@ dropping-end {c} {t} {b} z r =
 
 -- ---- with one word more
 
-module _ (c : Pairs) (s : ℕ → ℕ) {t : ℕ} (l : t < c .m) {b b′ e : ℕ} (p : e < c .m) (next : OnlyNext c s t l b b′ e) {w n w′ n′ : ℕ} (j : Joined w n (c .word e) w′ n′) where
+module _ (c : Pairs) (s : ℕ → ℕ) {t : ℕ} (l : t < c .m) {b b′ e : ℕ} (p : e < c .m) (next : OnlyNext c s t l b b′ e) {w n w′ n′ : ℕ}
+    (j : Joined w n (c .word e) w′ n′) where
   order : (w < c .word e) ⊎ ((c .word e ≡ w) ⊎ (c .word e < w))
-  order = by-cases (ℕ-discrete (c .word e) w) (λ x. inr (inl x)) (λ x. by-cases (decLt w (c .word e)) inl (λ y. inr (inr (omega (arith, x)))))
+  order =
+      by-cases (ℕ-discrete (c .word e) w) (λ x. inr (inl x)) (λ x. by-cases (decLt w (c .word e)) inl (λ y. inr (inr (omega (arith, x)))))
 
   pub common-joined : Common c s t b′ w n → Common c s t b w′ n′
   common-joined r = by-cases (ℕ-discrete n 0) none (λ z. ⊎-elim (larger z) (⊎-elim (same z) (smaller z)) order)
@@ -210,12 +251,16 @@ module _ (c : Pairs) (s : ℕ → ℕ) {t : ℕ} (l : t < c .m) {b b′ e : ℕ}
       smaller z x = let y = j .less z x in rw (y .0, y .1) (weighed-smaller l p next r f z x)
 
 -- the turns of the two loops
-pub common-also : {c : Pairs} {s : ℕ → ℕ} {t : ℕ} (l : t < c .m) {b b′ e : ℕ} (p : e < c .m) (next : OnlyNext c s t l b b′ e) {w n w′ n′ : ℕ} → Common c s t b′ w n
+pub common-also : {c : Pairs} {s : ℕ → ℕ} {t : ℕ} (l : t < c .m) {b b′ e : ℕ} (p : e < c .m) (next : OnlyNext c s t l b b′ e)
+    {w n w′ n′ : ℕ}
+    → Common c s t b′ w n
     → ((((c .m ≤ s e) ⊎ (s e ≡ t)) → ⊥) × (w′ ≡ w) × (n′ ≡ n)) ⊎ Joined w n (c .word e) w′ n′ → Common c s t b w′ n′
 common-also {c} {s} {t} l {b} {b′} {e} p next {w} {n} r (inl (x, y, z)) = rw (y, z) (common-not l p next r (λ v. x (v .1)))
 common-also {c} {s} {t} l {b} {b′} {e} p next {w} {n} {w′} {n′} r (inr j) = common-joined c s l p next j r
 
-pub weighed-also : {c : Pairs} {s : ℕ → ℕ} {t : ℕ} (l : t < c .m) {b b′ e : ℕ} (p : e < c .m) (next : OnlyNext c s t l b b′ e) {w n w′ n′ : ℕ} → Weighed c s t b′ w n
+pub weighed-also : {c : Pairs} {s : ℕ → ℕ} {t : ℕ} (l : t < c .m) {b b′ e : ℕ} (p : e < c .m) (next : OnlyNext c s t l b b′ e)
+    {w n w′ n′ : ℕ}
+    → Weighed c s t b′ w n
     → (Refuted c s e t × (w′ ≡ w) × (n′ ≡ n)) ⊎ ((g : ℕ → ℕ) × Followed c s e t g × Joined w n (c .word e) w′ n′) → Weighed c s t b w′ n′
 weighed-also {c} {s} {t} l {b} {b′} {e} p next {w} {n} r (inl (x, y, z)) = rw (y, z) (weighed-not l p next r x)
 weighed-also {c} {s} {t} l {b} {b′} {e} p next {w} {n} {w′} {n′} r (inr (g, f, j)) = weighed-joined c s l p next j r g f
@@ -223,7 +268,8 @@ weighed-also {c} {s} {t} l {b} {b′} {e} p next {w} {n} {w′} {n′} r (inr (g
 pub weighed-end : {c : Pairs} {s : ℕ → ℕ} {t b w n : ℕ} → b ≤ 0 → Weighed c s t b w n → Weighed c s t 0 w n
 weighed-end {b} h r = let x : b ≡ 0 = omega arith in rw x at r
 
-pub tries-of : {c : Pairs} {put trail : List ℕ} {n e t : ℕ} {put′ trail′ : List ℕ} {ok : Bool} {a k a′ k′ : ℕ} → Attempt c put trail n e t put′ trail′ ok
+pub tries-of : {c : Pairs} {put trail : List ℕ} {n e t : ℕ} {put′ trail′ : List ℕ} {ok : Bool} {a k a′ k′ : ℕ}
+    → Attempt c put trail n e t put′ trail′ ok
     → ((ok ≡ false) × (a′ ≡ a) × (k′ ≡ k)) ⊎ ((ok ≡ true) × Joined a k (c .word e) a′ k′) → Tries c put n e t a k put′ trail′ a′ k′
 tries-of h (inl (x, y, z)) = record { same = h .same; shape = h .shape; way = inl (h .no x, y, z) }
 tries-of h (inr (x, j)) = let y = h .yes x in record { same = h .same; shape = h .shape; way = inr (y .0, y .1, j) }
@@ -234,7 +280,8 @@ pub record Weighing (c : Pairs) (put₀ : List ℕ) (n t b w k : ℕ) (put trail
   pub shape : Trail (c .m) put trail n
   pub weighed : Weighed c (of put₀) t b w k
 
-pub weighing-more : {c : Pairs} {put₀ : List ℕ} {n t : ℕ} (l : t < c .m) {b b′ e : ℕ} (p : e < c .m) (next : OnlyNext c (of put₀) t l b b′ e) {w k w′ k′ : ℕ} {put trail put′ trail′ : List ℕ}
+pub weighing-more : {c : Pairs} {put₀ : List ℕ} {n t : ℕ} (l : t < c .m) {b b′ e : ℕ} (p : e < c .m)
+    (next : OnlyNext c (of put₀) t l b b′ e) {w k w′ k′ : ℕ} {put trail put′ trail′ : List ℕ}
     → Weighing c put₀ n t b′ w k put trail → Tries c put n e t w k put′ trail′ w′ k′ → Weighing c put₀ n t b w′ k′ put′ trail′
 weighing-more {c} {put₀} {t} l {b} {b′} {e} p next {w} {k} {w′} {k′} r d =
     record {
@@ -249,7 +296,8 @@ weighing-end {c} {put₀} {t} {b} {w} {k} h r = (r .same, rw (r .same) at (r .sh
 
 -- ---- the outcomes, as the code has them
 
-module _ {c : Pairs} {put trail : List ℕ} {n t : ℕ} (i : Inside c) (k : Closed c (of put)) (h : Trail (c .m) put trail n) (l : t < c .m) where
+module _ {c : Pairs} {put trail : List ℕ} {n t : ℕ} (i : Inside c) (k : Closed c (of put)) (h : Trail (c .m) put trail n)
+    (l : t < c .m) where
   pub choose-none : {w j : ℕ} → Common c (of put) t 0 w j → j ≡ 0 → Chooses c put t 0 0 put trail n false
   choose-none {w} r z = chooses-none (omega arith) h (none-possible i k l (rw z at r))
 
@@ -266,5 +314,6 @@ module _ {c : Pairs} {put trail : List ℕ} {n t : ℕ} (i : Inside c) (k : Clos
     pub choose-weighed-none : j ≡ 0 → Chooses c put t 0 0 put′ trail′ n false
     choose-weighed-none z = chooses-none (omega arith) weighed-shape (none-there i k l (g .2 .none z))
 
-    pub choose-kept : j ≢ 0 → (put″ trail″ : List ℕ) (n″ : ℕ) (ok : Bool) → DropsAll c put′ t w put″ trail″ n″ ok → Chooses c put t w (j - 1) put″ trail″ n″ ok
+    pub choose-kept : j ≢ 0 → (put″ trail″ : List ℕ) (n″ : ℕ) (ok : Bool) → DropsAll c put′ t w put″ trail″ n″ ok
+        → Chooses c put t w (j - 1) put″ trail″ n″ ok
     choose-kept z put″ trail″ n″ ok d = chooses-tried l (g .2) (omega (arith, z)) (rw (g .0) at d)

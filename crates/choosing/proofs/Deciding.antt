@@ -18,7 +18,8 @@ pub record Deciding (c : Pairs) (put trail : List ℕ) (n k : ℕ) (words : List
   pub few : k ≤ t
   pub upto : Upto c (of put) t (of words) k
 
-module _ {c : Pairs} (i : Inside c) {put trail : List ℕ} {n k : ℕ} {words : List ℕ} {t : ℕ} (r : Deciding c put trail n k words t) (l : t < c .m) {w j : ℕ} {put′ trail′ : List ℕ} {n′ : ℕ} {ok : Bool}
+module _ {c : Pairs} (i : Inside c) {put trail : List ℕ} {n k : ℕ} {words : List ℕ} {t : ℕ} (r : Deciding c put trail n k words t)
+    (l : t < c .m) {w j : ℕ} {put′ trail′ : List ℕ} {n′ : ℕ} {ok : Bool}
     (g : Chooses c put t w j put′ trail′ n′ ok) where
   pub deciding-more : ok ≡ true → Deciding c put′ trail′ n′ (k + j) (set words t w) (t + 1)
   deciding-more h =
@@ -26,7 +27,8 @@ module _ {c : Pairs} (i : Inside c) {put trail : List ℕ} {n k : ℕ} {words : 
         shape = g .shape;
         count = length-set words t w ∙ r .count;
         few = omega (arith, r .few, g .few);
-        upto = upto-more c (of put) (of put′) (of words) (of (set words t w)) t k j i l (λ x p. getD-set-other words t x w 0 (λ e. absurd (omega arith))) (r .upto) (rw here (g .good h));
+        upto = upto-more c (of put) (of put′) (of words) (of (set words t w)) t k j i l
+            (λ x p. getD-set-other words t x w 0 (λ e. absurd (omega arith))) (r .upto) (rw here (g .good h));
       }
     where
       here : of (set words t w) t ≡ w
@@ -35,5 +37,6 @@ module _ {c : Pairs} (i : Inside c) {put trail : List ℕ} {n k : ℕ} {words : 
   pub deciding-stops : ok ≡ false → (z : ℕ) → ChoosesAll c put′ trail′ n′ false z words
   deciding-stops h z = record { shape = g .shape; count = r .count; good = λ x. absurd (true≢false (sym x)); bad = λ _. g .bad h }
 
-pub deciding-end : {c : Pairs} {put trail : List ℕ} {n k : ℕ} {words : List ℕ} {t : ℕ} → Deciding c put trail n k words t → t ≡ c .m → ChoosesAll c put trail n true k words
+pub deciding-end : {c : Pairs} {put trail : List ℕ} {n k : ℕ} {words : List ℕ} {t : ℕ} → Deciding c put trail n k words t → t ≡ c .m
+    → ChoosesAll c put trail n true k words
 deciding-end r h = record { shape = r .shape; count = r .count; good = λ _. rw h at (r .upto); bad = λ x. absurd (true≢false x) }

@@ -13,12 +13,22 @@ module _ {a n w : ℕ} (some : n ≡ 0 → ⊥) where
   -- the least word again
   pub joined-same : w ≡ a → Joined a n w w n
   joined-same h =
-      record { first = λ x. absurd (some x); same = λ _ _. (h, refl); less = λ _ x. absurd (omega arith); more = λ _ x. absurd (omega arith) }
+      record {
+        first = λ x. absurd (some x);
+        same = λ _ _. (h, refl);
+        less = λ _ x. absurd (omega arith);
+        more = λ _ x. absurd (omega arith);
+      }
 
   -- a smaller one
   pub joined-less : w < a → Joined a n w w 2
   joined-less h =
-      record { first = λ x. absurd (some x); same = λ _ x. absurd (omega arith); less = λ _ _. (refl, refl); more = λ _ x. absurd (omega arith) }
+      record {
+        first = λ x. absurd (some x);
+        same = λ _ x. absurd (omega arith);
+        less = λ _ _. (refl, refl);
+        more = λ _ x. absurd (omega arith);
+      }
 
   -- a larger one
   pub joined-more : (w ≡ a → ⊥) → a ≤ w → Joined a n w a 2

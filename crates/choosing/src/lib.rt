@@ -3,11 +3,11 @@
 // lists and made the tables.
 ghost use mathlib.Core.Path.{_≡_};
 ghost use mathlib.Core.Logic.{_⊎_};
-ghost use Prim.Native.Nat.{_≤_, _<_};
+ghost use Prim.Native.Nat.{_<_};
 ghost use lib.ListN.{length};
 ghost use Rattle.pairs.specs.Arranged.{Stands};
 ghost use Rattle.pairs.specs.Chosen.{Closed, Upto};
-ghost use Rattle.following.specs.Following.{pairsOf, of, Card, Links, Trail, Ready, Attempt};
+ghost use Rattle.following.specs.Following.{pairsOf, of, Card, Links, Trail, Ready, CanStand, Attempt};
 ghost use Rattle.following.specs.Common.{Common};
 ghost use Rattle.choosing.specs.Choosing.{Joined, Tries, Weighed, Drops, DropsAll, Chooses, ChoosesAll};
 use following::Step;
@@ -44,7 +44,7 @@ fn with_word(s: Words, w: u32) -> Words
 fn also(word: &[u32], put: &[usize], e: usize, t: usize, s: Words) -> Words
     requires { ⌜ (e < length (now word)) × (length (now put) ≡ length (now word)) ⌝ }
     ensures { λ r. ⌜
-        ((((length (now (word .entry)) ≤ of (now (put .entry)) e) ⊎ (of (now (put .entry)) e ≡ t)) → ⊥) × (r .least ≡ s .least) × (r .many ≡ s .many))
+        ((CanStand (length (now (word .entry))) (now (put .entry)) e t → ⊥) × (r .least ≡ s .least) × (r .many ≡ s .many))
         ⊎ Joined (s .least) (s .many) (of (now (word .entry)) e) (r .least) (r .many)
         ⌝ }
 {

@@ -20,7 +20,8 @@ module _ {c : Pairs} {s : ℕ → ℕ} {t : ℕ} (l : t < c .m) {b b′ e : ℕ}
   common-first r z =
       record {
         none = λ y. absurd (omega arith);
-        same = λ _. one-more c s t l b b′ e p next (λ f. Possible c s t f → c .word f ≡ c .word e) (λ f q y x. absurd (r .none z f q y x)) (λ y. refl);
+        same = λ _. one-more c s t l b b′ e p next (λ f. Possible c s t f → c .word f ≡ c .word e) (λ f q y x. absurd (r .none z f q y x))
+            (λ y. refl);
       }
 
   pub common-same : Common c s t b′ w n → n ≢ 0 → c .word e ≡ w → Common c s t b w n

@@ -13,7 +13,8 @@ use borrow.Author.Tests.{lt-ltb, le-ltb, eqb-true, eqb-false}
 use Rattle.pairs.specs.Arranged.{Pairs, Inside, Stands, Goes, Arranged}
 use Rattle.pairs.specs.Chosen.{Agrees, Closed, Possible, Seen}
 use Rattle.pairs.proofs.Extends.{filled, was-possible}
-use Rattle.following.specs.Following.{Free, Rid, RidFrom, OnTrail, Traced, Forced, Clash, Done, Put, Trail, Card, Links, Went, Follows, Undone, Attempt, Tells, unplaced, of, pairsOf}
+use Rattle.following.specs.Following.{Free, Rid, RidFrom, OnTrail, Traced, Forced, Clash, Done, Put, Trail, Card, Links, Went}
+use Rattle.following.specs.Following.{Follows, Undone, Attempt, Tells, unplaced, of, pairsOf}
 
 -- ---- growing
 
@@ -29,7 +30,8 @@ traced-none =
     }
 
 -- one entry put, and on the trail
-pub traced-put : {c : Pairs} {s s′ h h′ : ℕ → ℕ} {n f r : ℕ} → f < c .m → c .m ≤ s f → Stands c f r → Put s f r s′ → ((i : ℕ) → i < n → h′ i ≡ h i) → h′ n ≡ f → Traced c s h n s′ h′ (n + 1)
+pub traced-put : {c : Pairs} {s s′ h h′ : ℕ → ℕ} {n f r : ℕ} → f < c .m → c .m ≤ s f → Stands c f r → Put s f r s′
+    → ((i : ℕ) → i < n → h′ i ≡ h i) → h′ n ≡ f → Traced c s h n s′ h′ (n + 1)
 traced-put {s} {n} {f} fp u st w same last =
     record {
       more = omega arith;
@@ -47,9 +49,11 @@ module _ {c : Pairs} {s h s′ h′ s″ h″ : ℕ → ℕ} {n n′ n″ : ℕ}
         more = omega arith;
         trail = λ i p. b .trail i (omega arith) ∙ a .trail i p;
         keeps = λ f p z. b .keeps f p (rw (a .keeps f p z) z) ∙ a .keeps f p z;
-        allowed = λ f p y z. by-cases (decLt (s′ f) (c .m)) (λ x. rw (b .keeps f p x) (a .allowed f p y x)) (λ x. b .allowed f p (omega arith) z);
+        allowed = λ f p y z. by-cases (decLt (s′ f) (c .m)) (λ x. rw (b .keeps f p x) (a .allowed f p y x))
+            (λ x. b .allowed f p (omega arith) z);
         back = λ f p. ⊎-elim (λ x. ⊎-elim (λ y. inl (x ∙ y)) (λ y. inr (wider f y)) (a .back f p)) (λ x. inr (further f x)) (b .back f p);
-        fresh = λ i p q. by-cases (decLt i n′) (λ x. rw (b .trail i x) (a .fresh i p x)) (λ x. let y = b .fresh i (omega arith) q in (y .0, was (h″ i) (y .0) (y .1)));
+        fresh = λ i p q. by-cases (decLt i n′) (λ x. rw (b .trail i x) (a .fresh i p x))
+            (λ x. let y = b .fresh i (omega arith) q in (y .0, was (h″ i) (y .0) (y .1)));
       }
     where
       wider : (f : ℕ) → OnTrail h′ n n′ f → OnTrail h″ n n″ f
@@ -97,7 +101,8 @@ module _ {c : Pairs} {s h : ℕ → ℕ} {top n : ℕ} where
   done-rid {g} d r f p z b = by-cases (ℕ-discrete f g) (λ x. inl (rw x r)) (d f p z)
 
 -- a placed entry is the first that waits
-pub done-start : {c : Pairs} {s s′ : ℕ → ℕ} (h : ℕ → ℕ) {h′ : ℕ → ℕ} {n f r : ℕ} → Closed c s → c .m ≤ s f → Put s f r s′ → h′ n ≡ f → Done c s′ h′ n (n + 1) (c .m)
+pub done-start : {c : Pairs} {s s′ : ℕ → ℕ} (h : ℕ → ℕ) {h′ : ℕ → ℕ} {n f r : ℕ} → Closed c s → c .m ≤ s f → Put s f r s′ → h′ n ≡ f
+    → Done c s′ h′ n (n + 1) (c .m)
 done-start {c} {s} {s′} h {n} {f} k u w last e p z b =
     by-cases (ℕ-discrete e f)
     (λ x. inr (n, omega arith, omega arith, last ∙ sym x))
@@ -130,7 +135,8 @@ other-stands c (inl x) = inr (omega arith)
 other-stands c (inr x) = inl (omega arith)
 
 -- what a placed entry excludes no arrangement has
-pub excluded : {c : Pairs} {s σ : ℕ → ℕ} {e f q : ℕ} → e < c .m → f < c .m → e ≢ f → s e < c .m → (Goes c e (s e) f q → ⊥) → Arranged c σ → Agrees c s σ → σ f ≢ q
+pub excluded : {c : Pairs} {s σ : ℕ → ℕ} {e f q : ℕ} → e < c .m → f < c .m → e ≢ f → s e < c .m → (Goes c e (s e) f q → ⊥) → Arranged c σ
+    → Agrees c s σ → σ f ≢ q
 excluded {e} {f} p fp d h n a g x = n (rw (g e p h, x) at (a .goes e f p fp d))
 
 -- ---- the test of two entries, by its four outcomes
@@ -166,10 +172,12 @@ pub seen-next : (c : Pairs) {q b x e : ℕ} → (x ≡ 2 * e) ⊎ (x ≡ 2 * e +
     → (f : ℕ) → Seen c q b f → (f ≡ e) ⊎ Seen c q (x + 1) f
 seen-next c {x} h g1 g2 f (inl (y, z)) =
     by-cases (decLt (2 * f) x) (λ l. absurd (g1 f z l (sym y)))
-    (λ l. by-cases (ℕ-discrete (2 * f) x) (λ d. inl (⊎-elim (λ v. omega arith) (λ v. omega arith) h)) (λ d. inr (inl (y, omega (arith, d)))))
+    (λ l. by-cases (ℕ-discrete (2 * f) x) (λ d. inl (⊎-elim (λ v. omega arith) (λ v. omega arith) h))
+    (λ d. inr (inl (y, omega (arith, d)))))
 seen-next c {x} h g1 g2 f (inr (y, z)) =
     by-cases (decLt (2 * f + 1) x) (λ l. absurd (g2 f z l (sym y)))
-    (λ l. by-cases (ℕ-discrete (2 * f + 1) x) (λ d. inl (⊎-elim (λ v. omega arith) (λ v. omega arith) h)) (λ d. inr (inr (y, omega (arith, d)))))
+    (λ l. by-cases (ℕ-discrete (2 * f + 1) x) (λ d. inl (⊎-elim (λ v. omega arith) (λ v. omega arith) h))
+    (λ d. inr (inr (y, omega (arith, d)))))
 
 -- ---- the card's places
 
@@ -187,8 +195,9 @@ module _ {at word : List ℕ} {cut f : ℕ} (k : Card at word cut) (fp : f < len
   -- what `other` asks
   pub other-asks : {q : ℕ} → Stands (pairsOf at word cut) f q
       → (2 * f + 1 < length at) × (of at (2 * f) < length at) × (of at (2 * f + 1) < length at) × (q ≤ of at (2 * f) + of at (2 * f + 1))
-  other-asks st =
-      (omega (arith, k .slots), omega (arith, k .slots, one-inside), omega (arith, k .slots, two-inside), ⊎-elim (λ x. omega arith) (λ x. omega arith) st)
+  other-asks {q} st =
+      let low : q ≤ of at (2 * f) + of at (2 * f + 1) = ⊎-elim (λ x. omega arith) (λ x. omega arith) st in
+      (omega (arith, k .slots), omega (arith, k .slots, one-inside), omega (arith, k .slots, two-inside), low)
 
 pub inside-of : {at word : List ℕ} {cut : ℕ} → Card at word cut → Inside (pairsOf at word cut)
 inside-of k = record { ones = λ e p. one-inside k p; twos = λ e p. two-inside k p }
@@ -215,10 +224,13 @@ module _ {m n f r : ℕ} {put trail : List ℕ} (t : Trail m put trail n) (fp : 
       record {
         puts = length-set put f r ∙ t .puts;
         trails = length-set trail n f ∙ t .trails;
-        blank = λ g. by-cases (ℕ-discrete g f) (λ x. rw (x, getD-set-same put f r 0 (rw (t .puts) fp)) (omega arith)) (λ x. rw (getD-set-other put f g r 0 x) (t .blank g));
+        blank = λ g. by-cases (ℕ-discrete g f) (λ x. rw (x, getD-set-same put f r 0 (rw (t .puts) fp)) (omega arith))
+            (λ x. rw (getD-set-other put f g r 0 x) (t .blank g));
         count = omega (arith, t .count, unplaced-set m f r put (rw (t .puts) fp) u rp);
-        inside = λ i p. by-cases (ℕ-discrete i n) (λ x. rw (x, last) fp) (λ x. rw (getD-set-other trail n i f 0 x) (t .inside i (omega (arith, x))));
-        placed = λ i p. by-cases (ℕ-discrete i n) (λ x. rw (x, last, getD-set-same put f r 0 (rw (t .puts) fp)) rp) (λ x. rw (getD-set-other trail n i f 0 x) (old i (omega (arith, x))));
+        inside = λ i p. by-cases (ℕ-discrete i n) (λ x. rw (x, last) fp)
+            (λ x. rw (getD-set-other trail n i f 0 x) (t .inside i (omega (arith, x))));
+        placed = λ i p. by-cases (ℕ-discrete i n) (λ x. rw (x, last, getD-set-same put f r 0 (rw (t .puts) fp)) rp)
+            (λ x. rw (getD-set-other trail n i f 0 x) (old i (omega (arith, x))));
       }
     where
       last : of (set trail n f) n ≡ f
@@ -243,7 +255,8 @@ module _ {c : Pairs} {put trail : List ℕ} {n : ℕ} (t : Trail (c .m) put trai
   pub went-clash : {A : Type 0} → Clash c (of put) → Went c put trail n put trail n false A
   went-clash k = record { shape = t; traced = traced-none; good = λ x. absurd (true≢false (sym x)); bad = λ _. k }
 
-  module _ {e f q : ℕ} (ep : e < c .m) (fp : f < c .m) (st : Stands c f q) (d : e ≢ f) (placed : of put e < c .m) (x : Goes c e (of put e) f q → ⊥) where
+  module _ {e f q : ℕ} (ep : e < c .m) (fp : f < c .m) (st : Stands c f q) (d : e ≢ f) (placed : of put e < c .m)
+      (x : Goes c e (of put e) f q → ⊥) where
     -- f stands where it may not
     pub clash-there : of put f ≡ q → q < c .m → Clash c (of put)
     clash-there y qp σ a g = excluded ep fp d placed x a g (g f fp (rw y qp) ∙ y)
@@ -256,7 +269,8 @@ module _ {c : Pairs} {put trail : List ℕ} {n : ℕ} (t : Trail (c .m) put trai
     clash-only y σ a g = excluded ep fp d placed x a g (must a g ∙ y)
 
     -- f goes to its other place
-    pub went-put : {r : ℕ} → r ≡ otherThan c f q → r < c .m → r ≢ q → c .m ≤ of put f → Went c put trail n (set put f r) (set trail n f) (n + 1) true (e ≢ f → Free c (of (set put f r)) e f q)
+    pub went-put : {r : ℕ} → r ≡ otherThan c f q → r < c .m → r ≢ q → c .m ≤ of put f
+        → Went c put trail n (set put f r) (set trail n f) (n + 1) true (e ≢ f → Free c (of (set put f r)) e f q)
     went-put {r} y rp z u =
         record {
           shape = trail-put t fp u rp;
@@ -272,7 +286,8 @@ module _ {c : Pairs} {put trail : List ℕ} {n : ℕ} (t : Trail (c .m) put trai
         here = w .here
 
         forced : Forced c (of put) (of (set put f r))
-        forced σ a g k kp v = by-cases (ℕ-discrete k f) (λ i. rw (i, here) (must a g ∙ sym y)) (λ i. rw (w .there k i) (g k kp (rw (w .there k i) at v)))
+        forced σ a g k kp v =
+            by-cases (ℕ-discrete k f) (λ i. rw (i, here) (must a g ∙ sym y)) (λ i. rw (w .there k i) (g k kp (rw (w .there k i) at v)))
 
 -- ---- one thing after another
 
@@ -299,15 +314,18 @@ went-stops {c} {put₀} {trail₀} {put} {trail} {put′} {trail′} {n₀} {n} 
     }
 
 -- the same with more, or less, told
-pub went-told : {c : Pairs} {put trail put′ trail′ : List ℕ} {n n′ : ℕ} {ok : Bool} {A B : Type 0} → (A → B) → Went c put trail n put′ trail′ n′ ok A → Went c put trail n put′ trail′ n′ ok B
+pub went-told : {c : Pairs} {put trail put′ trail′ : List ℕ} {n n′ : ℕ} {ok : Bool} {A B : Type 0} → (A → B)
+    → Went c put trail n put′ trail′ n′ ok A → Went c put trail n put′ trail′ n′ ok B
 went-told h a = record { shape = a .shape; traced = a .traced; good = λ x. (a .good x .0, h (a .good x .1)); bad = a .bad }
 
 -- where nothing clashed
-pub went-ok : {c : Pairs} {put trail put′ trail′ : List ℕ} {n n′ : ℕ} {ok : Bool} {A : Type 0} → ok ≡ true → Went c put trail n put′ trail′ n′ ok A → Went c put trail n put′ trail′ n′ true A
+pub went-ok : {c : Pairs} {put trail put′ trail′ : List ℕ} {n n′ : ℕ} {ok : Bool} {A : Type 0} → ok ≡ true
+    → Went c put trail n put′ trail′ n′ ok A → Went c put trail n put′ trail′ n′ true A
 went-ok h a = record { shape = a .shape; traced = a .traced; good = λ _. a .good h; bad = λ x. absurd (true≢false x) }
 
 -- where something clashed
-pub went-none : {c : Pairs} {put trail put′ trail′ : List ℕ} {n n′ : ℕ} {ok : Bool} {A B : Type 0} → ok ≡ false → Went c put trail n put′ trail′ n′ ok A → Went c put trail n put′ trail′ n′ ok B
+pub went-none : {c : Pairs} {put trail put′ trail′ : List ℕ} {n n′ : ℕ} {ok : Bool} {A B : Type 0} → ok ≡ false
+    → Went c put trail n put′ trail′ n′ ok A → Went c put trail n put′ trail′ n′ ok B
 went-none h a = record { shape = a .shape; traced = a .traced; good = λ x. absurd (true≢false (sym x ∙ h)); bad = a .bad }
 
 -- ---- the list of a place
@@ -320,13 +338,15 @@ pub record Clearing (at word : List ℕ) (cut : ℕ) (put₀ trail₀ : List ℕ
   pub here : 0 < k → of at (k - 1) ≡ q
   pub went : Went (pairsOf at word cut) put₀ trail₀ n₀ put trail n true (RidFrom (pairsOf at word cut) (of put) e q k)
 
-module _ {at word : List ℕ} {cut : ℕ} {last prev : List ℕ} (k : Card at word cut) (l : Links at word last prev) {q : ℕ} (qp : q < length word) where
+module _ {at word : List ℕ} {cut : ℕ} {last prev : List ℕ} (k : Card at word cut) (l : Links at word last prev) {q : ℕ}
+    (qp : q < length word) where
   -- before the last slot of the list there is none
   none-yet : {f : ℕ} → f < length word → Seen (pairsOf at word cut) q (of last q) f → ⊥
   none-yet {f} fp (inl (x, y)) = l .top q (rw (l .lasts) qp) .1 (2 * f) y (omega (arith, k .slots)) (sym x)
   none-yet {f} fp (inr (x, y)) = l .top q (rw (l .lasts) qp) .1 (2 * f + 1) y (omega (arith, k .slots)) (sym x)
 
-  pub clear-start : {put trail : List ℕ} {n e : ℕ} → Trail (length word) put trail n → Clearing at word cut put trail n put trail n e q (of last q)
+  pub clear-start : {put trail : List ℕ} {n e : ℕ} → Trail (length word) put trail n
+      → Clearing at word cut put trail n put trail n e q (of last q)
   clear-start {put} {trail} {n} t =
       record {
         low = l .top q (rw (l .lasts) qp) .0;
@@ -357,7 +377,8 @@ module _ {at word : List ℕ} {cut : ℕ} {last prev : List ℕ} (k : Card at wo
         back = omega arith
 
     pub clear-more : {put′ trail′ : List ℕ} {n′ : ℕ} → e < length word → of put e < length word
-        → Went (pairsOf at word cut) put trail n put′ trail′ n′ true (e ≢ (b - 1) / 2 → Free (pairsOf at word cut) (of put′) e ((b - 1) / 2) q)
+        → Went (pairsOf at word cut) put trail n put′ trail′ n′ true
+        (e ≢ (b - 1) / 2 → Free (pairsOf at word cut) (of put′) e ((b - 1) / 2) q)
         → Clearing at word cut put₀ trail₀ n₀ put′ trail′ n′ e q (of prev (b - 1))
     clear-more {put′} {trail′} {n′} ep placed w =
         record {
@@ -367,11 +388,13 @@ module _ {at word : List ℕ} {cut : ℕ} {last prev : List ℕ} (k : Card at wo
         }
       where
         both : RidFrom (pairsOf at word cut) (of put) e q b → Agrees (pairsOf at word cut) (of put) (of put′)
-            → (e ≢ (b - 1) / 2 → Free (pairsOf at word cut) (of put′) e ((b - 1) / 2) q) → RidFrom (pairsOf at word cut) (of put′) e q (of prev (b - 1))
+            → (e ≢ (b - 1) / 2 → Free (pairsOf at word cut) (of put′) e ((b - 1) / 2) q)
+            → RidFrom (pairsOf at word cut) (of put′) e q (of prev (b - 1))
         both old g new f fp d z =
             ⊎-elim (λ x. rw x (new (rw x at d))) (λ x. free-more g ep placed fp (old f fp d x)) (next z)
 
-pub clear-end : {at word : List ℕ} {cut : ℕ} {put₀ trail₀ put trail : List ℕ} {n₀ n e q b : ℕ} → b ≤ 0 → Clearing at word cut put₀ trail₀ n₀ put trail n e q b
+pub clear-end : {at word : List ℕ} {cut : ℕ} {put₀ trail₀ put trail : List ℕ} {n₀ n e q b : ℕ} → b ≤ 0
+    → Clearing at word cut put₀ trail₀ n₀ put trail n e q b
     → Went (pairsOf at word cut) put₀ trail₀ n₀ put trail n true (RidFrom (pairsOf at word cut) (of put) e q 0)
 clear-end {at} {word} {cut} {put₀} {trail₀} {put} {trail} {n₀} {n} h r =
     went-told
@@ -380,7 +403,8 @@ clear-end {at} {word} {cut} {put₀} {trail₀} {put} {trail} {n₀} {n} h r =
 -- ---- the three places
 
 -- no entry stands beyond the last place
-pub beyond : {at word : List ℕ} {cut : ℕ} → Card at word cut → (q b f : ℕ) → f < length word → length word ≤ q → Seen (pairsOf at word cut) q b f → ⊥
+pub beyond : {at word : List ℕ} {cut : ℕ} → Card at word cut → (q b f : ℕ) → f < length word → length word ≤ q
+    → Seen (pairsOf at word cut) q b f → ⊥
 beyond {at} {word} {cut} k q b f fp h (inl (x, y)) = absurd (omega (arith, one-inside k fp))
 beyond {at} {word} {cut} k q b f fp h (inr (x, y)) = absurd (omega (arith, two-inside k fp))
 
@@ -390,7 +414,8 @@ rid-from-more {c} {s} {s′} {e} {q} ep h g r f fp d z = free-more g ep h fp (r 
 seen-0 : (c : Pairs) {q f : ℕ} → Stands c f q → Seen c q 0 f
 seen-0 c st = ⊎-elim (λ x. inl (x, omega arith)) (λ x. inr (x, omega arith)) st
 
-pub rid-three : {c : Pairs} {s : ℕ → ℕ} {e p : ℕ} → s e ≡ p → RidFrom c s e p 0 → RidFrom c s e (p + 1) 0 → ((q : ℕ) → q + 1 ≡ p → RidFrom c s e q 0) → Rid c s e
+pub rid-three : {c : Pairs} {s : ℕ → ℕ} {e p : ℕ} → s e ≡ p → RidFrom c s e p 0 → RidFrom c s e (p + 1) 0
+    → ((q : ℕ) → q + 1 ≡ p → RidFrom c s e q 0) → Rid c s e
 rid-three {c} {e} {p} here a b h f q fp d st =
     by-cases (ℕ-discrete q p) (λ x. rw x (a f fp d (seen-0 c (rw x at st))))
     (λ x. by-cases (ℕ-discrete q (p + 1)) (λ y. rw y (b f fp d (seen-0 c (rw y at st))))
@@ -403,7 +428,8 @@ pub record Chasing (c : Pairs) (put₀ trail₀ : List ℕ) (n₀ : ℕ) (put tr
   pub low : top ≤ n
   pub went : Went c put₀ trail₀ n₀ put trail n true (Done c (of put) (of trail) top n (c .m))
 
-pub chase-more : {c : Pairs} {put₀ trail₀ put trail put′ trail′ : List ℕ} {n₀ n n′ top : ℕ} → Chasing c put₀ trail₀ n₀ put trail n top → top < n
+pub chase-more : {c : Pairs} {put₀ trail₀ put trail put′ trail′ : List ℕ} {n₀ n n′ top : ℕ} → Chasing c put₀ trail₀ n₀ put trail n top
+    → top < n
     → Went c put trail n put′ trail′ n′ true (Rid c (of put′) (of trail top)) → Chasing c put₀ trail₀ n₀ put′ trail′ n′ (top + 1)
 chase-more {c} {put₀} {trail₀} {put} {trail} {put′} {trail′} {n₀} {n} {n′} {top} r l w =
     record {
@@ -411,12 +437,14 @@ chase-more {c} {put₀} {trail₀} {put} {trail} {put′} {trail′} {n₀} {n} 
       went = went-then (r .went) w next;
     }
   where
-    next : Done c (of put) (of trail) top n (c .m) → Agrees c (of put) (of put′) → Rid c (of put′) (of trail top) → Done c (of put′) (of trail′) (top + 1) n′ (c .m)
+    next : Done c (of put) (of trail) top n (c .m) → Agrees c (of put) (of put′) → Rid c (of put′) (of trail top)
+        → Done c (of put′) (of trail′) (top + 1) n′ (c .m)
     next d g y =
         done-rid
         (done-grown (omega arith) (done-take d l) (w .traced)) y
 
-module _ {c : Pairs} {put trail : List ℕ} {n e p : ℕ} (t : Trail (c .m) put trail n) (k : Closed c (of put)) (ep : e < c .m) (u : c .m ≤ of put e) (pp : p < c .m) (st : Stands c e p) where
+module _ {c : Pairs} {put trail : List ℕ} {n e p : ℕ} (t : Trail (c .m) put trail n) (k : Closed c (of put)) (ep : e < c .m)
+    (u : c .m ≤ of put e) (pp : p < c .m) (st : Stands c e p) where
   first : Put (of put) e p (of (set put e p))
   first = put-set put (rw (t .puts) ep)
 
@@ -425,7 +453,8 @@ module _ {c : Pairs} {put trail : List ℕ} {n e p : ℕ} (t : Trail (c .m) put 
 
   -- with e at p
   assumed : {σ : ℕ → ℕ} → Agrees c (of put) σ → σ e ≡ p → Agrees c (of (set put e p)) σ
-  assumed g x f fp z = by-cases (ℕ-discrete f e) (λ y. rw (y, first .here) x) (λ y. rw (first .there f y) (g f fp (rw (first .there f y) at z)))
+  assumed g x f fp z =
+      by-cases (ℕ-discrete f e) (λ y. rw (y, first .here) x) (λ y. rw (first .there f y) (g f fp (rw (first .there f y) at z)))
 
   pub chase-start : Chasing c (set put e p) (set trail n e) (n + 1) (set put e p) (set trail n e) (n + 1) n
   chase-start =
@@ -437,12 +466,18 @@ module _ {c : Pairs} {put trail : List ℕ} {n e p : ℕ} (t : Trail (c .m) put 
       }
 
   module _ {put′ trail′ : List ℕ} {n′ : ℕ} where
-    pub follow-end : {top : ℕ} → Chasing c (set put e p) (set trail n e) (n + 1) put′ trail′ n′ top → n′ ≤ top → Follows c put trail n e p put′ trail′ n′ true
+    pub follow-end : {top : ℕ} → Chasing c (set put e p) (set trail n e) (n + 1) put′ trail′ n′ top → n′ ≤ top
+        → Follows c put trail n e p put′ trail′ n′ true
     follow-end {top} r h =
         record {
           shape = r .went .shape;
           traced = traced-both begun (r .went .traced);
-          good = λ _. record { closed = done-end allowed (rw even at (r .went .good refl .1)); keeps = whole .keeps; takes = r .went .traced .keeps e ep (rw (first .here) pp) ∙ first .here; forced = λ σ a g x. r .went .good refl .0 σ a (assumed g x) };
+          good = λ _. record {
+            closed = done-end allowed (rw even at (r .went .good refl .1));
+            keeps = whole .keeps;
+            takes = r .went .traced .keeps e ep (rw (first .here) pp) ∙ first .here;
+            forced = λ σ a g x. r .went .good refl .0 σ a (assumed g x);
+          };
           bad = λ x. absurd (true≢false x);
         }
       where
@@ -453,9 +488,11 @@ module _ {c : Pairs} {put trail : List ℕ} {n e p : ℕ} (t : Trail (c .m) put 
         whole = traced-both begun (r .went .traced)
 
         allowed : (f : ℕ) → f < c .m → of put′ f < c .m → Stands c f (of put′ f)
-        allowed f fp z = by-cases (decLt (of put f) (c .m)) (λ x. rw (whole .keeps f fp x) (k .allowed f fp x)) (λ x. whole .allowed f fp (omega arith) z)
+        allowed f fp z = by-cases (decLt (of put f) (c .m)) (λ x. rw (whole .keeps f fp x) (k .allowed f fp x))
+            (λ x. whole .allowed f fp (omega arith) z)
 
-    pub follow-stop : {ok : Bool} {A : Type 0} → ok ≡ false → Went c (set put e p) (set trail n e) (n + 1) put′ trail′ n′ ok A → Follows c put trail n e p put′ trail′ n′ ok
+    pub follow-stop : {ok : Bool} {A : Type 0} → ok ≡ false → Went c (set put e p) (set trail n e) (n + 1) put′ trail′ n′ ok A
+        → Follows c put trail n e p put′ trail′ n′ ok
     follow-stop h w =
         record {
           shape = w .shape;
@@ -517,7 +554,8 @@ pub record Undoing (put₀ trail : List ℕ) (from n none : ℕ) (put : List ℕ
   pub blank : none ≡ length put₀
   pub low : from ≤ i
   pub back : (base : List ℕ) → length base ≡ length put₀ → ((j : ℕ) → from ≤ j → j < n → of base (of trail j) ≡ length put₀)
-      → ((f : ℕ) → f < length put₀ → (of put₀ f ≡ of base f) ⊎ OnTrail (of trail) from n f) → (f : ℕ) → f < length put₀ → (of put f ≡ of base f) ⊎ OnTrail (of trail) i n f
+      → ((f : ℕ) → f < length put₀ → (of put₀ f ≡ of base f) ⊎ OnTrail (of trail) from n f) → (f : ℕ) → f < length put₀
+      → (of put f ≡ of base f) ⊎ OnTrail (of trail) i n f
 
 module _ {put₀ trail : List ℕ} {from n none : ℕ} {put : List ℕ} {i : ℕ} (r : Undoing put₀ trail from n none put i) where
   pub undo-more : i < n → of trail i < length put₀ → Undoing put₀ trail from n none (set put (of trail i) none) (i + 1)
@@ -526,10 +564,12 @@ module _ {put₀ trail : List ℕ} {from n none : ℕ} {put : List ℕ} {i : ℕ
         count = length-set put (of trail i) none ∙ r .count;
         blank = r .blank;
         low = omega (arith, r .low);
-        back = λ base len fresh h f fp. by-cases (ℕ-discrete f (of trail i)) (λ x. inl (there base fresh f x)) (λ x. ⊎-elim (λ y. inl (off f x ∙ y)) (λ y. inr (past f x y)) (r .back base len fresh h f fp));
+        back = λ base len fresh h f fp. by-cases (ℕ-discrete f (of trail i)) (λ x. inl (there base fresh f x))
+            (λ x. ⊎-elim (λ y. inl (off f x ∙ y)) (λ y. inr (past f x y)) (r .back base len fresh h f fp));
       }
     where
-      there : (base : List ℕ) → ((j : ℕ) → from ≤ j → j < n → of base (of trail j) ≡ length put₀) → (f : ℕ) → f ≡ of trail i → of (set put (of trail i) none) f ≡ of base f
+      there : (base : List ℕ) → ((j : ℕ) → from ≤ j → j < n → of base (of trail j) ≡ length put₀) → (f : ℕ) → f ≡ of trail i
+          → of (set put (of trail i) none) f ≡ of base f
       there base fresh f x = rw x (getD-set-same put (of trail i) none 0 (rw (r .count) p) ∙ r .blank ∙ sym (fresh i (r .low) l))
 
       off : (f : ℕ) → f ≢ of trail i → of (set put (of trail i) none) f ≡ of put f
@@ -544,14 +584,16 @@ module _ {put₀ trail : List ℕ} {from n none : ℕ} {put : List ℕ} {i : ℕ
   pub undo-end : n ≤ i → Undone put₀ trail from n put
   undo-end h =
       record {
-        back = λ base len fresh k. ext-getD 0 put base (r .count ∙ sym len) (λ f p. ⊎-elim (λ x. x) (λ x. absurd (omega (arith, x .1, x .2))) (r .back base len fresh k f (rw (r .count) at p)));
+        back = λ base len fresh k. ext-getD 0 put base (r .count ∙ sym len)
+            (λ f p. ⊎-elim (λ x. x) (λ x. absurd (omega (arith, x .1, x .2))) (r .back base len fresh k f (rw (r .count) at p)));
       }
 
 pub undo-start : {put trail : List ℕ} {from n : ℕ} → Undoing put trail from n (length put) put from
 undo-start = record { count = refl; blank = refl; low = omega arith; back = λ base len fresh h. h }
 
 -- following, and then undoing it, leaves the places as they were
-pub attempted : {c : Pairs} {put trail : List ℕ} {n e p : ℕ} {put′ trail′ put″ : List ℕ} {n′ : ℕ} {ok : Bool} → Trail (c .m) put trail n → Follows c put trail n e p put′ trail′ n′ ok
+pub attempted : {c : Pairs} {put trail : List ℕ} {n e p : ℕ} {put′ trail′ put″ : List ℕ} {n′ : ℕ} {ok : Bool} → Trail (c .m) put trail n
+    → Follows c put trail n e p put′ trail′ n′ ok
     → Undone put′ trail′ n n′ put″ → Attempt c put trail n e p put″ trail′ ok
 attempted {c} {put} {trail} {n} {put′} {trail′} {put″} t w u =
     record {

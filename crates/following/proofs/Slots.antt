@@ -15,7 +15,8 @@ pub record Listing (at : List ℕ) (q b : ℕ) : Type 0 where
   pub low : b ≤ length at
   pub here : 0 < b → of at (b - 1) ≡ q
 
-module _ {at word : List ℕ} {cut : ℕ} {last prev : List ℕ} (k : Card at word cut) (l : Links at word last prev) {q : ℕ} (qp : q < length word) where
+module _ {at word : List ℕ} {cut : ℕ} {last prev : List ℕ} (k : Card at word cut) (l : Links at word last prev) {q : ℕ}
+    (qp : q < length word) where
   pub list-start : Listing at q (of last q)
   list-start = record { low = l .top q (rw (l .lasts) qp) .0; here = l .top q (rw (l .lasts) qp) .2 }
 
@@ -35,7 +36,11 @@ module _ {at word : List ℕ} {cut : ℕ} {last prev : List ℕ} (k : Card at wo
     list-stands = ⊎-elim (λ x. inl (sym (r .here more) ∙ ap (of at) x)) (λ x. inr (sym (r .here more) ∙ ap (of at) x)) (slot-of)
 
     pub list-more : Listing at q (of prev (b - 1))
-    list-more = record { low = omega (arith, l .next (b - 1) slot-low .0, r .low); here = λ x. l .next (b - 1) slot-low .2 x ∙ r .here more }
+    list-more =
+        record {
+          low = omega (arith, l .next (b - 1) slot-low .0, r .low);
+          here = λ x. l .next (b - 1) slot-low .2 x ∙ r .here more;
+        }
 
     pub list-less : of prev (b - 1) < b
     list-less = omega (arith, l .next (b - 1) slot-low .0)
@@ -43,7 +48,8 @@ module _ {at word : List ℕ} {cut : ℕ} {last prev : List ℕ} (k : Card at wo
     gap : (y : ℕ) → of prev (b - 1) ≤ y → y < b - 1 → of at y ≢ q
     gap y p z x = l .next (b - 1) slot-low .1 y p z (x ∙ sym (r .here more))
 
-    pub list-next : (f : ℕ) → f < length word → Seen (pairsOf at word cut) q (of prev (b - 1)) f → (f ≡ (b - 1) / 2) ⊎ Seen (pairsOf at word cut) q b f
+    pub list-next : (f : ℕ) → f < length word → Seen (pairsOf at word cut) q (of prev (b - 1)) f
+        → (f ≡ (b - 1) / 2) ⊎ Seen (pairsOf at word cut) q b f
     list-next f fp z =
         ⊎-elim inl (λ y. inr (rw back at y))
         (seen-next (pairsOf at word cut) (slot-of) (λ g. gap (2 * g)) (λ g. gap (2 * g + 1)) f z)
@@ -58,16 +64,19 @@ pub record NoneFrom (at word : List ℕ) (cut : ℕ) (put : List ℕ) (q b : ℕ
   pub listing : Listing at q b
   pub none : (e : ℕ) → e < length word → Seen (pairsOf at word cut) q b e → Possible (pairsOf at word cut) (of put) q e → ⊥
 
-module _ {at word : List ℕ} {cut : ℕ} {last prev put : List ℕ} (k : Card at word cut) (l : Links at word last prev) {q : ℕ} (qp : q < length word) where
+module _ {at word : List ℕ} {cut : ℕ} {last prev put : List ℕ} (k : Card at word cut) (l : Links at word last prev) {q : ℕ}
+    (qp : q < length word) where
   pub none-start : NoneFrom at word cut put q (of last q)
   none-start = record { listing = list-start k l qp; none = λ e p z. absurd (list-none k l qp e p z) }
 
-  pub none-more : {b : ℕ} → NoneFrom at word cut put q b → 0 < b → (Possible (pairsOf at word cut) (of put) q ((b - 1) / 2) → ⊥) → NoneFrom at word cut put q (of prev (b - 1))
+  pub none-more : {b : ℕ} → NoneFrom at word cut put q b → 0 < b → (Possible (pairsOf at word cut) (of put) q ((b - 1) / 2) → ⊥)
+      → NoneFrom at word cut put q (of prev (b - 1))
   none-more r more x =
       record {
         listing = list-more k l qp (r .listing) more;
         none = λ e p z y. ⊎-elim (λ h. x (rw h at y)) (λ h. r .none e p h y) (list-next k l qp (r .listing) more e p z);
       }
 
-pub none-end : {at word : List ℕ} {cut : ℕ} {put : List ℕ} {q b : ℕ} → NoneFrom at word cut put q b → b ≤ 0 → (e : ℕ) → e < length word → Possible (pairsOf at word cut) (of put) q e → ⊥
+pub none-end : {at word : List ℕ} {cut : ℕ} {put : List ℕ} {q b : ℕ} → NoneFrom at word cut put q b → b ≤ 0 → (e : ℕ) → e < length word
+    → Possible (pairsOf at word cut) (of put) q e → ⊥
 none-end r h e p y = r .none e p (⊎-elim (λ x. inl (x, omega arith)) (λ x. inr (x, omega arith)) (y .0)) y

@@ -42,8 +42,10 @@ pub record Card (at word : List ℕ) (cut : ℕ) : Type 0 where
 pub record Links (at word last prev : List ℕ) : Type 0 where
   pub lasts : length last ≡ length word
   pub prevs : length prev ≡ length at
-  pub top : (t : ℕ) → t < length last → (of last t ≤ length at) × ((x : ℕ) → of last t ≤ x → x < length at → of at x ≢ t) × (0 < of last t → of at (of last t - 1) ≡ t)
-  pub next : (x : ℕ) → x < length at → (of prev x ≤ x) × ((y : ℕ) → of prev x ≤ y → y < x → of at y ≢ of at x) × (0 < of prev x → of at (of prev x - 1) ≡ of at x)
+  pub top : (t : ℕ) → t < length last
+      → (of last t ≤ length at) × ((x : ℕ) → of last t ≤ x → x < length at → of at x ≢ t) × (0 < of last t → of at (of last t - 1) ≡ t)
+  pub next : (x : ℕ) → x < length at
+      → (of prev x ≤ x) × ((y : ℕ) → of prev x ≤ y → y < x → of at y ≢ of at x) × (0 < of prev x → of at (of prev x - 1) ≡ of at x)
 
 -- how many entries have no place
 unfoldable pub unplaced : ℕ → List ℕ → ℕ
@@ -59,6 +61,10 @@ pub record Trail (m : ℕ) (put trail : List ℕ) (n : ℕ) : Type 0 where
   pub placed : (i : ℕ) → i < n → of put (of trail i) < m
 
 -- ---- what following does
+
+-- of m entries, entry e can still come to stand at its place t
+abbrev pub CanStand : ℕ → List ℕ → ℕ → ℕ → Type 0
+CanStand m put e t = (m ≤ of put e) ⊎ (of put e ≡ t)
 
 abbrev pub Free : Pairs → (ℕ → ℕ) → ℕ → ℕ → ℕ → Type 0
 Free c s e f q = Goes c e (s e) f q ⊎ ((s f < c .m) × (s f ≢ q))

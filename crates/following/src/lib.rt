@@ -3,13 +3,13 @@
 // card. The `pub` functions have a `requires`: their callers have admitted the lists and made the tables.
 ghost use mathlib.Core.Path.{_≡_};
 ghost use mathlib.Core.Bool.{true, false};
-ghost use mathlib.Core.Logic.{_≢_, _⊎_};
+ghost use mathlib.Core.Logic.{_≢_};
 ghost use Prim.Native.Nat.{ℕ, _+_, _*_, _-_, _≤_, _<_};
 ghost use mathlib.Core.List.{List};
 ghost use lib.ListN.{length, getD};
 ghost use Rattle.pairs.specs.Arranged.{Stands, Goes};
 ghost use Rattle.pairs.specs.Chosen.{Closed, Possible};
-ghost use Rattle.following.specs.Following.{pairsOf, of, Card, Links, Trail, Tells, Ready};
+ghost use Rattle.following.specs.Following.{pairsOf, of, Card, Links, Trail, Tells, Ready, CanStand};
 ghost use Rattle.following.specs.Following.{Free, Rid, RidFrom, Went, Follows, Undone, Attempt};
 
 // How far the trail goes, and whether nothing clashed.
@@ -21,7 +21,7 @@ pub struct Step {
 // Whether entry e can still come to stand at t.
 pub fn possible(put: &[usize], e: usize, t: usize) -> bool
     requires { ⌜ e < length (now put) ⌝ }
-    ensures { λ r. ⌜ Tells ((length (now (put .entry)) ≤ of (now (put .entry)) e) ⊎ (of (now (put .entry)) e ≡ t)) r ⌝ }
+    ensures { λ r. ⌜ Tells (CanStand (length (now (put .entry))) (now (put .entry)) e t) r ⌝ }
 {
     let p = put[e];
     if p < put.len() {
@@ -163,7 +163,9 @@ fn can_be_filled(
         × Links (now at) (now word) (now last) (now prev)
         ⌝ }
     ensures { λ r. ⌜
-        (r ≡ false → (e : ℕ) → e < length (now (word .entry)) → Possible (pairsOf (now (at .entry)) (now (word .entry)) cut) (of (now (put .entry))) q e → ⊥)
+        (r ≡ false → (e : ℕ) → e < length (now (word .entry))
+        → Possible (pairsOf (now (at .entry)) (now (word .entry)) cut) (of (now (put .entry))) q e
+        → ⊥)
         ⌝ }
 {
     let mut k = last[q];

@@ -14,7 +14,9 @@ use Rattle.pairs.proofs.Extends.{filled, was-possible}
 use Rattle.pairs.proofs.Places.{OnlyNext, seen-all}
 use Rattle.following.proofs.CommonLaws.{common-not, common-first, common-same, common-many}
 
-pub entry-also : (c : Pairs) {s : ℕ → ℕ} {t : ℕ} (l : t < c .m) {b b′ e : ℕ} (p : e < c .m) (next : OnlyNext (keyed c) s t l b b′ e) {w n w′ n′ : ℕ} → Common (keyed c) s t b′ w n
+pub entry-also : (c : Pairs) {s : ℕ → ℕ} {t : ℕ} (l : t < c .m) {b b′ e : ℕ} (p : e < c .m) (next : OnlyNext (keyed c) s t l b b′ e)
+    {w n w′ n′ : ℕ}
+    → Common (keyed c) s t b′ w n
     → ((((c .m ≤ s e) ⊎ (s e ≡ t)) → ⊥) × (w′ ≡ w) × (n′ ≡ n)) ⊎ JoinedEntry w n e w′ n′ → Common (keyed c) s t b w′ n′
 entry-also c {s} {t} l {b} {b′} {e} p next {w} {n} r (inl (x, y, z)) = rw (y, z) (common-not l p next r (λ v. x (v .1)))
 entry-also c {s} {t} l {b} {b′} {e} p next {w} {n} {w′} r (inr j) =
@@ -24,7 +26,8 @@ entry-also c {s} {t} l {b} {b′} {e} p next {w} {n} {w′} r (inr j) =
     (λ x. let y = j .same z x in rw (y .0, y .1) (common-same l p next r z x))
     (λ x. rw (j .other z x) (common-many)))
 
-module _ {c : Pairs} {put trail : List ℕ} {n t : ℕ} (i : Inside c) (r : Root c (of put)) (h : Trail (c .m) put trail n) (l : t < c .m) {w k : ℕ} (g : Common (keyed c) (of put) t 0 w k) where
+module _ {c : Pairs} {put trail : List ℕ} {n t : ℕ} (i : Inside c) (r : Root c (of put)) (h : Trail (c .m) put trail n) (l : t < c .m)
+    {w k : ℕ} (g : Common (keyed c) (of put) t 0 w k) where
   -- the entry that an arrangement has at t was possible
   at-t : {σ : ℕ → ℕ} → Arranged c σ → (e : ℕ) × (e < c .m) × (σ e ≡ t) × Seen c t 0 e × Possible c (of put) t e
   at-t {σ} a =
@@ -33,12 +36,18 @@ module _ {c : Pairs} {put trail : List ℕ} {n t : ℕ} (i : Inside c) (r : Root
       (y .0, y .1, y .2, seen-all c t (y .0) (z .0), z)
 
   pub force-none : k ≡ 0 → Roots c put trail n false
-  force-none z = record { shape = h; good = λ x. absurd (true≢false (sym x)); bad = λ _ σ a. let y = at-t a in g .none z (y .0) (y .1) (y .3) (y .4) }
+  force-none z =
+      record {
+        shape = h;
+        good = λ x. absurd (true≢false (sym x));
+        bad = λ _ σ a. let y = at-t a in g .none z (y .0) (y .1) (y .3) (y .4);
+      }
 
   pub force-still : Roots c put trail n true
   force-still = record { shape = h; good = λ _. r; bad = λ x. absurd (true≢false x) }
 
-  pub force-one : k ≡ 1 → (put′ trail′ : List ℕ) (n′ : ℕ) (ok : Bool) → Follows c put trail n w t put′ trail′ n′ ok → Roots c put′ trail′ n′ ok
+  pub force-one : k ≡ 1 → (put′ trail′ : List ℕ) (n′ : ℕ) (ok : Bool) → Follows c put trail n w t put′ trail′ n′ ok
+      → Roots c put′ trail′ n′ ok
   force-one z put′ trail′ n′ ok f =
       record {
         shape = f .shape;

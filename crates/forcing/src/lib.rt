@@ -3,9 +3,9 @@
 ghost use mathlib.Core.Path.{_≡_};
 ghost use mathlib.Core.Bool.{true};
 ghost use mathlib.Core.Logic.{_⊎_};
-ghost use Prim.Native.Nat.{ℕ, _+_, _*_, _≤_, _<_};
+ghost use Prim.Native.Nat.{ℕ, _+_, _*_, _<_};
 ghost use lib.ListN.{length, replicate};
-ghost use Rattle.following.specs.Following.{pairsOf, of, Card, Links, Ready};
+ghost use Rattle.following.specs.Following.{pairsOf, of, Card, Links, Ready, CanStand};
 ghost use Rattle.following.specs.Common.{Common};
 ghost use Rattle.forcing.specs.Forcing.{keyed, Root, Roots, JoinedEntry};
 use following::Step;
@@ -31,7 +31,7 @@ pub struct Entries {
 fn also_entry(put: &[usize], e: usize, t: usize, s: Entries) -> Entries
     requires { ⌜ e < length (now put) ⌝ }
     ensures { λ r. ⌜
-        ((((length (now (put .entry)) ≤ of (now (put .entry)) e) ⊎ (of (now (put .entry)) e ≡ t)) → ⊥) × (r .one ≡ s .one) × (r .many ≡ s .many))
+        ((CanStand (length (now (put .entry))) (now (put .entry)) e t → ⊥) × (r .one ≡ s .one) × (r .many ≡ s .many))
         ⊎ JoinedEntry (s .one) (s .many) e (r .one) (r .many)
         ⌝ }
 {

@@ -33,7 +33,8 @@ blank-trail {m} h =
     record {
       puts = length-replicate m m;
       trails = h;
-      blank = λ f. by-cases (decLt f m) (λ p. omega (arith, none-placed p)) (λ p. omega (arith, List·getD-eq-default (replicate m m) 0 {n = f} (omega (arith, length-replicate m m))));
+      blank = λ f. by-cases (decLt f m) (λ p. omega (arith, none-placed p))
+          (λ p. omega (arith, List·getD-eq-default (replicate m m) 0 {n = f} (omega (arith, length-replicate m m))));
       count = omega (arith, unplaced-all m m);
       inside = λ i p. absurd (omega arith);
       placed = λ i p. absurd (omega arith);
@@ -51,7 +52,8 @@ blank-root {c} = record { closed = blank-closed; every = λ σ a e p h. absurd (
 
 -- ---- the answer
 
-pub builds-found : {c : Pairs} {put trail put′ words : List ℕ} {n k : ℕ} {ok ok′ : Bool} → ChoosesAll c put trail n ok k words → ok ≡ true → SettlesAll c put put′ ok′ → ok′ ≡ true → Builds c words k true
+pub builds-found : {c : Pairs} {put trail put′ words : List ℕ} {n k : ℕ} {ok ok′ : Bool} → ChoosesAll c put trail n ok k words → ok ≡ true
+    → SettlesAll c put put′ ok′ → ok′ ≡ true → Builds c words k true
 builds-found {c} {put} {put′} {words} {k} g h d h′ =
     let y = d .good h′ in
     record { yes = λ _. found c (of put) (of put′) (of words) k (g .good h) (y .0) (y .1); no = λ x. absurd (true≢false x) }
@@ -61,7 +63,8 @@ builds-none h = record { yes = λ x. absurd (true≢false (sym x)); no = λ _. h
 
 -- ---- what the calls ask
 
-pub link-asks : {at word : List ℕ} {cut : ℕ} (last : List ℕ) {last′ : List ℕ} (prev : List ℕ) → Card at word cut → length last ≡ length word → length prev ≡ length at → last′ ≡ replicate (length last) 0
+pub link-asks : {at word : List ℕ} {cut : ℕ} (last : List ℕ) {last′ : List ℕ} (prev : List ℕ) → Card at word cut
+    → length last ≡ length word → length prev ≡ length at → last′ ≡ replicate (length last) 0
     → ((x : ℕ) → x < length at → of at x < length last′) × (length prev ≡ length at) × ((t : ℕ) → t < length last′ → of last′ t ≡ 0)
 link-asks {at} last {last′} prev k h g e =
     (λ x p. rw (len ∙ h) (k .inside x p), g, λ t p. rw e (getD-replicate (length last) t 0 0 (rw len at p)))
@@ -69,9 +72,12 @@ link-asks {at} last {last′} prev k h g e =
     len : length last′ ≡ length last
     len = ap length e ∙ length-replicate (length last) 0
 
-pub begin : {at word : List ℕ} {cut : ℕ} {last prev : List ℕ} (put : List ℕ) {put′ trail : List ℕ} (count words : List ℕ) → Card at word cut → Links at word last prev → length put ≡ length word → length trail ≡ length word → length words ≡ length word → length count ≡ length word
+pub begin : {at word : List ℕ} {cut : ℕ} {last prev : List ℕ} (put : List ℕ) {put′ trail : List ℕ} (count words : List ℕ)
+    → Card at word cut → Links at word last prev → length put ≡ length word → length trail ≡ length word → length words ≡ length word
+    → length count ≡ length word
     → put′ ≡ replicate (length put) (length word)
-    → Ready at word cut last prev put′ trail 0 × (Root (pairsOf at word cut) (of put′) × ((length count ≡ length word) × (length words ≡ length word)))
+    → Ready at word cut last prev put′ trail 0 ×
+    (Root (pairsOf at word cut) (of put′) × ((length count ≡ length word) × (length words ≡ length word)))
 begin {at} {word} {cut} put {put′} {trail} count words k l a b f d e =
     rw here (record { card = k; links = l; shape = blank-trail b }, (blank-root, (d, f)))
   where
@@ -79,8 +85,11 @@ begin {at} {word} {cut} put {put′} {trail} count words k l a b f d e =
     here = e ∙ ap (λ (n : ℕ). replicate n (length word)) a
 
 -- after the root the words can be decided
-pub rooted : {at word : List ℕ} {cut : ℕ} {last prev put trail : List ℕ} (words : List ℕ) {n : ℕ} {ok : Bool} → Card at word cut → Links at word last prev → Roots (pairsOf at word cut) put trail n ok → ok ≡ true → length words ≡ length word
-    → Ready at word cut last prev put trail n × (Closed (pairsOf at word cut) (of put) × ((length words ≡ length word) × Upto (pairsOf at word cut) (of put) 0 (of words) 0))
+pub rooted : {at word : List ℕ} {cut : ℕ} {last prev put trail : List ℕ} (words : List ℕ) {n : ℕ} {ok : Bool} → Card at word cut
+    → Links at word last prev → Roots (pairsOf at word cut) put trail n ok → ok ≡ true → length words ≡ length word
+    → Ready at word cut last prev put trail n ×
+    (Closed (pairsOf at word cut) (of put) × ((length words ≡ length word) × Upto (pairsOf at word cut) (of put) 0 (of words) 0))
 rooted {at} {word} {cut} {put} words k l r h d =
     let y = r .good h in
-    (record { card = k; links = l; shape = r .shape }, (y .closed, (d, upto-none (pairsOf at word cut) (of put) (of words) (y .closed) (y .every))))
+    let none = upto-none (pairsOf at word cut) (of put) (of words) (y .closed) (y .every) in
+    (record { card = k; links = l; shape = r .shape }, (y .closed, (d, none)))

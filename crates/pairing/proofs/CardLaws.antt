@@ -16,16 +16,32 @@ use Rattle.entries.specs.Fault.{pair, noPlace}
 use Rattle.entries.specs.Slot.{slotFrom, entriesIn}
 use Rattle.entries.proofs.Allowed.{pair-entry, pair-below}
 use Rattle.entries.proofs.SlotLaws.{slot-from}
+use Rattle.sequence.specs.Lists.{In}
 use Rattle.sequence.proofs.LetterLaws.{pow-pos, overlap-is, is-overlap}
 use Rattle.pairs.specs.Arranged.{Stands}
 use Rattle.pairs.specs.Described.{Described}
 use Rattle.pairs.specs.Settling.{pairEntries}
+use Rattle.pairs.proofs.Reindexed.{in-index}
 use Rattle.pairs.proofs.Told.{found-worded, found-tells, none-tells}
 use Rattle.following.specs.Following.{Card, pairsOf}
 use Rattle.following.proofs.Forcing.{inside-of, slot-of}
 use Rattle.pairing.specs.Built.{Builds}
 use Rattle.pairing.specs.Paired.{PairCard, secondOf, PlacesFrom, Gives}
 use Rattle.pairing.proofs.PlacesLaws.{allowed-two, two-allowed}
+
+-- entry number e of the card
+entry-at : (words ones twos : List ℕ) (e : ℕ) → e < length words → (d : Entry)
+    → getD (pairEntries (entriesIn words ones twos)) e d
+    ≡ record {
+      word = getD words e 0;
+      places = cond (eqb (getD twos e 0) noPlace) (One (getD ones e 0)) (Two (getD ones e 0) (getD twos e 0));
+    }
+entry-at words ones twos e h d =
+    ap (λ (xs : List Entry). getD xs e d) (map-row (entryOf pair) (slotFrom words ones twos) 0 (length words))
+    ∙ row-at (λ i. entryOf pair (slotFrom words ones twos i)) d 0 (length words) e h
+    ∙ ap (λ (i : ℕ). entryOf pair (slotFrom words ones twos i)) (omega arith)
+    ∙ ap (entryOf pair) (slot-from words ones twos e)
+    ∙ pair-entry (record { word = getD words e 0; one = getD ones e 0; two = getD twos e 0 })
 
 module _ {l : ℕ} {words ones twos : List ℕ} (k : PairCard l words ones twos) {at : List ℕ} (p : PlacesFrom ones twos at) {cut : ℕ}
     (c : cut ≡ 4 ^ (l - 1)) where
@@ -45,19 +61,6 @@ module _ {l : ℕ} {words ones twos : List ℕ} (k : PairCard l words ones twos)
 
     two-below : getD at (2 * e + 1) 0 < length words
     two-below = rw (p .two e in-ones) (below (secondOf (getD ones e 0) (getD twos e 0)) (inr refl))
-
-    -- the entry of the card
-    entry-is : (d : Entry) → getD (pairEntries (entriesIn words ones twos)) e d
-        ≡ record {
-          word = getD words e 0;
-          places = cond (eqb (getD twos e 0) noPlace) (One (getD ones e 0)) (Two (getD ones e 0) (getD twos e 0));
-        }
-    entry-is d =
-        ap (λ (xs : List Entry). getD xs e d) (map-row (entryOf pair) (slotFrom words ones twos) 0 (length words))
-        ∙ row-at (λ i. entryOf pair (slotFrom words ones twos i)) d 0 (length words) e h
-        ∙ ap (λ (i : ℕ). entryOf pair (slotFrom words ones twos i)) (omega arith)
-        ∙ ap (entryOf pair) (slot-from words ones twos e)
-        ∙ pair-entry (record { word = getD words e 0; one = getD ones e 0; two = getD twos e 0 })
 
     stands-two : (q : ℕ) → (q ≡ getD ones e 0) ⊎ (q ≡ secondOf (getD ones e 0) (getD twos e 0)) → Stands (pairsOf at words cut) e q
     stands-two q x = ⊎-map (λ y. y ∙ sym (p .one e in-ones)) (λ y. y ∙ sym (p .two e in-ones)) x
@@ -83,9 +86,9 @@ module _ {l : ℕ} {words ones twos : List ℕ} (k : PairCard l words ones twos)
         some-letter = k .some-letter;
         inside = inside-of card-of;
         fits = k .fits;
-        word = λ d e h. ap (λ (x : Entry). x .word) (entry-is e h d);
-        allowed = λ d e q h a. stands-two e h q (allowed-two (getD ones e 0) (getD twos e 0) q (rw (entry-is e h d) at a));
-        allows-it = λ d e q h s. rw (entry-is e h d) (two-allowed (getD ones e 0) (getD twos e 0) q (two-stands e h q s));
+        word = λ d e h. ap (λ (x : Entry). x .word) (entry-at words ones twos e h d);
+        allowed = λ d e q h a. stands-two e h q (allowed-two (getD ones e 0) (getD twos e 0) q (rw (entry-at words ones twos e h d) at a));
+        allows-it = λ d e q h s. rw (entry-at words ones twos e h d) (two-allowed (getD ones e 0) (getD twos e 0) q (two-stands e h q s));
         meets = λ e f g h o. rw c (overlap-is l (getD words e 0) (getD words f 0) o);
         met = λ e f g h o. is-overlap l (getD words e 0) (getD words f 0) (rw c at o);
       }
@@ -100,3 +103,22 @@ module _ {l : ℕ} {words ones twos : List ℕ} (k : PairCard l words ones twos)
         told = λ h. found-tells described ws n all (b .yes h);
         none = λ h. none-tells described (b .no h);
       }
+
+-- the words of the card's entries have l letters
+pub entry-fits : {l : ℕ} {words ones twos : List ℕ} → PairCard l words ones twos → (e : Entry) → In e (pairEntries (entriesIn words ones twos))
+    → e .word < 4 ^ l
+entry-fits {l} {words} {ones} {twos} k e h =
+    let u = in-index (record { word = 0; places = One 0 }) h in
+    let low : u .0 < length words = omega (arith, u .1, many) in
+    rw (u .2) (rw (ap (λ (x : Entry). x .word) (entry-of (u .0) low)) (k .fits (u .0) low))
+  where
+    many : length (pairEntries (entriesIn words ones twos)) ≡ length words
+    many = length-map (entriesIn words ones twos) (entryOf pair) ∙ length-row (slotFrom words ones twos) 0 (length words)
+
+    entry-of : (i : ℕ) → i < length words
+        → getD (pairEntries (entriesIn words ones twos)) i (record { word = 0; places = One 0 })
+        ≡ record {
+          word = getD words i 0;
+          places = cond (eqb (getD twos i 0) noPlace) (One (getD ones i 0)) (Two (getD ones i 0) (getD twos i 0));
+        }
+    entry-of i g = entry-at words ones twos i g (record { word = 0; places = One 0 })

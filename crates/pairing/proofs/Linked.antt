@@ -30,15 +30,18 @@ linking-start h =
       next = λ y p. absurd (omega arith);
     }
 
-module _ {at last₀ prev₀ last prev : List ℕ} {x : ℕ} (r : Linking at last₀ prev₀ last prev x) (l : x < length at) (q : of at x < length last₀) (same : length prev₀ ≡ length at) where
+module _ {at last₀ prev₀ last prev : List ℕ} {x : ℕ} (r : Linking at last₀ prev₀ last prev x) (l : x < length at)
+    (q : of at x < length last₀) (same : length prev₀ ≡ length at) where
   pub linking-more : Linking at last₀ prev₀ (set last (of at x) (x + 1)) (set prev x (of last (of at x))) (x + 1)
   linking-more =
       record {
         lasts = length-set last (of at x) (x + 1) ∙ r .lasts;
         prevs = length-set prev x (of last (of at x)) ∙ r .prevs;
         low = omega arith;
-        top = λ t p. by-cases (ℕ-discrete t (of at x)) (λ z. rw (z, here) own) (λ z. rw (getD-set-other last (of at x) t (x + 1) 0 z) (old t p z));
-        next = λ y p. by-cases (ℕ-discrete y x) (λ z. rw (z, there) (r .top (of at x) q)) (λ z. rw (getD-set-other prev x y (of last (of at x)) 0 z) (r .next y (omega (arith, z))));
+        top = λ t p. by-cases (ℕ-discrete t (of at x)) (λ z. rw (z, here) own)
+            (λ z. rw (getD-set-other last (of at x) t (x + 1) 0 z) (old t p z));
+        next = λ y p. by-cases (ℕ-discrete y x) (λ z. rw (z, there) (r .top (of at x) q))
+            (λ z. rw (getD-set-other prev x y (of last (of at x)) 0 z) (r .next y (omega (arith, z))));
       }
     where
       here : of (set last (of at x) (x + 1)) (of at x) ≡ x + 1
@@ -53,9 +56,12 @@ module _ {at last₀ prev₀ last prev : List ℕ} {x : ℕ} (r : Linking at las
       old : (t : ℕ) → t < length last₀ → t ≢ of at x → Head at (x + 1) t (of last t)
       old t p z =
           let h = r .top t p in
-          (omega (arith, h .0), λ y a b. by-cases (ℕ-discrete y x) (λ e w. z (sym w ∙ ap (of at) e)) (λ e. h .1 y a (omega (arith, e))), h .2)
+          let none : (y : ℕ) → of last t ≤ y → y < x + 1 → of at y ≢ t =
+          λ y a b. by-cases (ℕ-discrete y x) (λ e w. z (sym w ∙ ap (of at) e)) (λ e. h .1 y a (omega (arith, e))) in
+          (omega (arith, h .0), none, h .2)
 
-pub linking-end : {at last₀ prev₀ last prev : List ℕ} {x : ℕ} → Linking at last₀ prev₀ last prev x → length at ≤ x → length prev₀ ≡ length at → (word : List ℕ) → length word ≡ length last₀ → Links at word last prev
+pub linking-end : {at last₀ prev₀ last prev : List ℕ} {x : ℕ} → Linking at last₀ prev₀ last prev x → length at ≤ x
+    → length prev₀ ≡ length at → (word : List ℕ) → length word ≡ length last₀ → Links at word last prev
 linking-end {at} {x} r h same word e =
     record {
       lasts = r .lasts ∙ sym e;

@@ -1,5 +1,5 @@
--- Laws of the places of the entries, two for each: how the list of them is filled, and that it has each entry's allowed places and no others.
--- Assumes nothing.
+-- Laws of the places of the entries, two for each: how the list of them is filled, and that it has the allowed places of each entry and
+-- no others. Assumes nothing.
 use mathlib.Core.Path.{_≡_, refl, _∙_}
 use mathlib.Core.Logic.{_⊎_, inl, inr, ⊎-elim, by-cases}
 use mathlib.Core.Bool.{Bool, true, false, cond, _||_}

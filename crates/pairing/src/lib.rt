@@ -1,6 +1,6 @@
-// The verdict on a pair card, from lists of words and places: the places of each entry and the list of each place are made, what is forced is
-// followed, the words are chosen place by place, and every entry gets a place. `pair` has a `requires`: its caller has admitted the lists,
-// and lends room.
+// The verdict on a pair card, from lists of words and places: the places of each entry and the list of each place are made, what is forced
+// is followed, the words are chosen place by place, and every entry gets a place. `pair` has a `requires`: its caller has admitted the
+// lists, and lends room.
 ghost use mathlib.Core.Path.{_≡_};
 ghost use Prim.Native.Nat.{ℕ, _*_, _<_};
 ghost use mathlib.Core.List.{List};

@@ -23,14 +23,20 @@ module _ {c : Pairs} {put trail : List ℕ} {n e : ℕ} (t : Trail (c .m) put tr
     -- its place one
     pub settles-one : {p : ℕ} → p < c .m → ok ≡ true → Follows c put trail n e p put′ trail′ n′ ok → Settles c put e put′ trail′ n′ ok
     settles-one pp h w =
-        record { shape = w .shape; good = λ x. let y = w .good x in (y .closed, y .keeps, rw (y .takes) pp); bad = λ x. absurd (true≢false (sym h ∙ x)) }
+        record {
+          shape = w .shape;
+          good = λ x. let y = w .good x in (y .closed, y .keeps, rw (y .takes) pp);
+          bad = λ x. absurd (true≢false (sym h ∙ x));
+        }
 
     -- its place two, after its place one was tried
-    module _ (one : c .one e < c .m) (two : c .two e < c .m) (failed : ok ≡ false) (w : Follows c put trail n e (c .one e) put′ trail′ n′ ok) {put″ : List ℕ} (u : Undone put′ trail′ n n′ put″) where
+    module _ (one : c .one e < c .m) (two : c .two e < c .m) (failed : ok ≡ false)
+        (w : Follows c put trail n e (c .one e) put′ trail′ n′ ok) {put″ : List ℕ} (u : Undone put′ trail′ n n′ put″) where
       pub undone : Attempt c put trail n e (c .one e) put″ trail′ ok
       undone = attempted t w u
 
-      pub settles-two : {put‴ trail‴ : List ℕ} {n‴ : ℕ} {ok′ : Bool} → Follows c put″ trail′ n e (c .two e) put‴ trail‴ n‴ ok′ → Settles c put e put‴ trail‴ n‴ ok′
+      pub settles-two : {put‴ trail‴ : List ℕ} {n‴ : ℕ} {ok′ : Bool} → Follows c put″ trail′ n e (c .two e) put‴ trail‴ n‴ ok′
+          → Settles c put e put‴ trail‴ n‴ ok′
       settles-two v =
           record {
             shape = v .shape;
@@ -49,7 +55,8 @@ pub record Settling (c : Pairs) (put₀ put trail : List ℕ) (n i : ℕ) : Type
   pub placed : (e : ℕ) → e < i → e < c .m → of put e < c .m
 
 module _ {c : Pairs} {put₀ put trail : List ℕ} {n i : ℕ} (r : Settling c put₀ put trail n i) where
-  pub settling-more : {put′ trail′ : List ℕ} {n′ : ℕ} {ok : Bool} → Settles c put i put′ trail′ n′ ok → ok ≡ true → Settling c put₀ put′ trail′ n′ (i + 1)
+  pub settling-more : {put′ trail′ : List ℕ} {n′ : ℕ} {ok : Bool} → Settles c put i put′ trail′ n′ ok → ok ≡ true
+      → Settling c put₀ put′ trail′ n′ (i + 1)
   settling-more {put′} w h =
       record {
         shape = w .shape;
@@ -62,7 +69,11 @@ module _ {c : Pairs} {put₀ put trail : List ℕ} {n i : ℕ} (r : Settling c p
       y = w .good h
 
   pub settled-all : c .m ≤ i → SettlesAll c put₀ put true
-  settled-all h = record { good = λ _. (all-placed c (of put) (r .closed) (λ e p. r .placed e (omega arith) p), r .keeps); bad = λ x. absurd (true≢false x) }
+  settled-all h =
+      record {
+        good = λ _. (all-placed c (of put) (r .closed) (λ e p. r .placed e (omega arith) p), r .keeps);
+        bad = λ x. absurd (true≢false x);
+      }
 
 pub settled-none : {c : Pairs} {put put′ : List ℕ} → NoBuild c → SettlesAll c put put′ false
 settled-none h = record { good = λ x. absurd (true≢false (sym x)); bad = λ _. h }

@@ -87,7 +87,8 @@ returns-4 c =
     let s = some (k .before) in
     let b = weighed (s .before) in
     let pre = from-weighed b .pre in
-    choose-kept (inside-of (pre .0 .card)) (pre .1 .0) (pre .0 .shape) (pre .1 .1) (b .weigh .ensures) (s .if3 .left) _ _ _ _ (k .keep-word .ensures)
+    choose-kept (inside-of (pre .0 .card)) (pre .1 .0) (pre .0 .shape) (pre .1 .1) (b .weigh .ensures) (s .if3 .left) _ _ _ _
+    (k .keep-word .ensures)
 
 pub choose-spec : {M : Type 1} → statement M
 choose-spec =

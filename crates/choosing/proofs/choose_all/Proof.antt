@@ -10,7 +10,8 @@ use Rattle.choosing.proofs.choose_all.Statement.{statement}
 use Rattle.choosing.proofs.choose_all.Tie as tie
 
 abbrev Inv-loop : tie.InvT-loop
-Inv-loop at word cut last prev put₀ trail₀ n words₀ far₀ choices₀ t₀ put trail words far choices t = (t ≤ length word) × Deciding (pairsOf at word cut) put trail far choices words t
+Inv-loop at word cut last prev put₀ trail₀ n words₀ far₀ choices₀ t₀ put trail words far choices t =
+    (t ≤ length word) × Deciding (pairsOf at word cut) put trail far choices words t
 
 abbrev μ-loop : tie.MeasureT-loop
 μ-loop at word cut last prev put₀ trail₀ n words₀ far₀ choices₀ t₀ put trail words far choices t = length word - t

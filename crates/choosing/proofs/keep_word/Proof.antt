@@ -11,7 +11,8 @@ use Rattle.choosing.proofs.keep_word.Statement.{statement}
 use Rattle.choosing.proofs.keep_word.Tie as tie
 
 abbrev Inv-loop : tie.InvT-loop
-Inv-loop at word cut last prev put₀ trail₀ n t w far₀ k₀ put trail far k = Listing at t k × Dropping (pairsOf at word cut) put₀ t w k put trail far
+Inv-loop at word cut last prev put₀ trail₀ n t w far₀ k₀ put trail far k =
+    Listing at t k × Dropping (pairsOf at word cut) put₀ t w k put trail far
 
 abbrev μ-loop : tie.MeasureT-loop
 μ-loop at word cut last prev put₀ trail₀ n t w far₀ k₀ put trail far k = k
@@ -37,7 +38,8 @@ shared-slice-read-k c = let pre = entered c .pre in omega (arith, pre .0 .links 
 loop-holds : tie.Need-loop-holds Inv-loop μ-loop
 loop-holds c =
     let pre = entered c .pre in
-    (list-start (pre .0 .card) (pre .0 .links) (pre .1 .1), dropping-start (pre .1 .0) (pre .0 .shape) (list-none (pre .0 .card) (pre .0 .links) (pre .1 .1)))
+    let none = list-none (pre .0 .card) (pre .0 .links) (pre .1 .1) in
+    (list-start (pre .0 .card) (pre .0 .links) (pre .1 .1), dropping-start (pre .1 .0) (pre .0 .shape) none)
 
 sub-x : tie.Need-sub-x Inv-loop μ-loop
 sub-x c = search needs

@@ -40,13 +40,15 @@ returns-2 : tie.Need-returns-2
 returns-2 c =
     let b = c .before .before in
     let pre = unlike b .pre in
-    drops-not (pre .0 .shape) (pre .1 .1 .0) (b .if1 .left) (λ σ a g. g _ (pre .1 .1 .0) (rw (c .if2 .taken) (pre .1 .1 .1)) ∙ c .if2 .taken)
+    drops-not (pre .0 .shape) (pre .1 .1 .0) (b .if1 .left)
+    (λ σ a g. g _ (pre .1 .1 .0) (rw (c .if2 .taken) (pre .1 .1 .1)) ∙ c .if2 .taken)
 
 returns-3 : tie.Need-returns-3
 returns-3 c =
     let b = c .before .before .before in
     let pre = unlike b .pre in
-    drops-still (pre .0 .shape) (pre .1 .1 .0) (pre .1 .0) (λ x. ⊎-elim (λ y. absurd (omega (arith, y, c .if3 .taken))) (λ y. absurd (c .before .if2 .left y)) (x .1))
+    drops-still (pre .0 .shape) (pre .1 .1 .0) (pre .1 .0)
+    (λ x. ⊎-elim (λ y. absurd (omega (arith, y, c .if3 .taken))) (λ y. absurd (c .before .if2 .left y)) (x .1))
 
 other-requires : tie.Need-other-requires
 other-requires c κs = let pre = unlike (free c) .pre in other-asks (pre .0 .card) (pre .1 .1 .0) (pre .1 .1 .2)
@@ -64,7 +66,10 @@ follow-requires c κs =
     let o = d .before in
     let b = free (o .before) in
     let pre = unlike b .pre in
-    (pre .0, (pre .1 .0, (pre .1 .1 .0, o .before .if3 .left, rw (o .other .ensures) (other-inside (pre .0 .card) (pre .1 .1 .0) (pre .1 .1 .2)), rw (o .other .ensures) (other-stands (pairsOf (unlike b .args .at .now) (unlike b .args .word .now) (unlike b .args .cut)) (pre .1 .1 .2)))))
+    let card = pairsOf (unlike b .args .at .now) (unlike b .args .word .now) (unlike b .args .cut) in
+    let inside = other-inside (pre .0 .card) (pre .1 .1 .0) (pre .1 .1 .2) in
+    let stands = other-stands card (pre .1 .1 .2) in
+    (pre .0, (pre .1 .0, (pre .1 .1 .0, o .before .if3 .left, rw (o .other .ensures) inside, rw (o .other .ensures) stands)))
 
 same-length : tie.Need-same-length
 same-length c = search needs

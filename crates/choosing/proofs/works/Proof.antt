@@ -18,7 +18,8 @@ returns : tie.Need-returns
 returns c = let pre = start (c .before) .pre in works-there (pre .0 .shape) (pre .1 .0) (c .if1 .taken)
 
 returns-2 : tie.Need-returns-2
-returns-2 c = let pre = start (c .before .before) .pre in works-not (pre .0 .shape) (pre .1 .0) (pre .1 .1 .0) (c .if2 .taken) (c .before .if1 .left)
+returns-2 c =
+    let pre = start (c .before .before) .pre in works-not (pre .0 .shape) (pre .1 .0) (pre .1 .1 .0) (c .if2 .taken) (c .before .if1 .left)
 
 attempt-requires : tie.Need-attempt-requires
 attempt-requires c κs =

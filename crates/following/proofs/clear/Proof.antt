@@ -1,4 +1,4 @@
--- `following::clear` meets its contract. The loop's invariant: e is rid of the entries of q from slot k on (`Clearing`, proofs/Forcing.antt).
+-- `following::clear` meets its contract. The loop's invariant: e is rid of the entries of q from slot k on (`Clearing`, proofs/Forcing).
 -- The measure is k. Assumes nothing.
 use mathlib.Core.Path.{sym, _∙_}
 use Prim.Native.Nat.{_-_, _<_}
@@ -34,10 +34,12 @@ mul-k : tie.Need-mul-k Inv-loop μ-loop
 mul-k c = search needs
 
 shared-slice-read-k : tie.Need-shared-slice-read-k Inv-loop μ-loop
-shared-slice-read-k c = let pre = c .before .before .before .before .before .before .before .pre in omega (arith, pre .0 .links .lasts, pre .1 .1)
+shared-slice-read-k c =
+    let pre = c .before .before .before .before .before .before .before .pre in omega (arith, pre .0 .links .lasts, pre .1 .1)
 
 loop-holds : tie.Need-loop-holds Inv-loop μ-loop
-loop-holds c = let pre = c .before .before .before .before .before .before .before .pre in clear-start (pre .0 .card) (pre .0 .links) (pre .1 .1) (pre .0 .shape)
+loop-holds c = let pre = c .before .before .before .before .before .before .before .pre in clear-start (pre .0 .card) (pre .0 .links)
+    (pre .1 .1) (pre .0 .shape)
 
 sub-x : tie.Need-sub-x Inv-loop μ-loop
 sub-x c = search needs
@@ -64,7 +66,8 @@ loop-less : tie.Need-loop-less Inv-loop μ-loop
 loop-less c =
     let t = turn (called (c .before .before) .before) in
     let links = start (t .before) .pre .0 .links in
-    omega (arith, links .next (t .before .loop .k - 1) (omega (arith, t .before .loop .inv .low, t .loop-test .taken)) .0, t .loop-test .taken)
+    let l = t .before .loop in
+    omega (arith, links .next (l .k - 1) (omega (arith, l .inv .low, t .loop-test .taken)) .0, t .loop-test .taken)
 
 loop-again : tie.Need-loop-again Inv-loop μ-loop
 loop-again c =

@@ -36,7 +36,8 @@ goes-requires c κs = search needs
 
 returns-2 : tie.Need-returns-2
 returns-2 c =
-    went-still (unlike (c .before .before .before) .pre .1 .0) (λ d. inl (c .before .goes .ensures (unlike (c .before .before .before) .args .at .now) .yes (c .if2 .taken)))
+    went-still (unlike (c .before .before .before) .pre .1 .0)
+    (λ d. inl (c .before .goes .ensures (unlike (c .before .before .before) .args .at .now) .yes (c .if2 .taken)))
 
 mul-was : tie.Need-mul-was
 mul-was c = search needs
@@ -65,7 +66,8 @@ returns-5 c =
     let pre = unlike b .pre in
     went-clash (pre .1 .0)
     (clash-only (pre .1 .0) (pre .1 .1 .0) (pre .1 .1 .1) (pre .1 .1 .4) (b .if1 .left) (pre .1 .1 .3)
-    (unplaced-yet (c .before .before) .before .goes .ensures (unlike b .args .at .now) .no (unplaced-yet (c .before .before) .if2 .left)) (sym (c .before .other .ensures) ∙ c .if5 .taken))
+    (unplaced-yet (c .before .before) .before .goes .ensures (unlike b .args .at .now) .no (unplaced-yet (c .before .before) .if2 .left))
+    (sym (c .before .other .ensures) ∙ c .if5 .taken))
 
 mul-put : tie.Need-mul-put
 mul-put c = search needs

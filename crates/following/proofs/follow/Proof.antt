@@ -11,7 +11,8 @@ use Rattle.following.proofs.follow.Statement.{statement}
 use Rattle.following.proofs.follow.Tie as tie
 
 abbrev Inv-loop : tie.InvT-loop
-Inv-loop at word cut last prev put₀ trail₀ n e p top₀ far₀ put trail top far = Chasing (pairsOf at word cut) put₀ trail₀ far₀ put trail far top
+Inv-loop at word cut last prev put₀ trail₀ n e p top₀ far₀ put trail top far =
+    Chasing (pairsOf at word cut) put₀ trail₀ far₀ put trail far top
 
 abbrev μ-loop : tie.MeasureT-loop
 μ-loop at word cut last prev put₀ trail₀ n e p top₀ far₀ put trail top far = length word - top
@@ -57,14 +58,17 @@ mul-f : tie.Need-mul-f Inv-loop μ-loop
 mul-f c = search needs
 
 slice-read-f : tie.Need-slice-read-f Inv-loop μ-loop
-slice-read-f c = let shape = c .before .before .loop .inv .went .shape in omega (arith, shape .count, shape .trails, c .before .loop-test .taken)
+slice-read-f c =
+    let shape = c .before .before .loop .inv .went .shape in omega (arith, shape .count, shape .trails, c .before .loop-test .taken)
 
 rid-requires : tie.Need-rid-requires Inv-loop μ-loop
 rid-requires c κs =
     let t = turn c in
     let pre = start (t .before) .pre in
-    let shape = t .before .loop .inv .went .shape in
-    (record { card = pre .0 .card; links = pre .0 .links; shape = shape }, (shape .inside _ (t .loop-test .taken), shape .placed _ (t .loop-test .taken)))
+    let shape = t .before .loop .inv .went .shape in (
+      record { card = pre .0 .card; links = pre .0 .links; shape = shape },
+      (shape .inside _ (t .loop-test .taken), shape .placed _ (t .loop-test .taken)),
+    )
 
 add-top : tie.Need-add-top Inv-loop μ-loop
 add-top c =
@@ -109,7 +113,8 @@ same-length-4 c = c .before .loop .inv .went .shape .trails ∙ sym (start (c .b
 returns-2 : tie.Need-returns-2 Inv-loop μ-loop
 returns-2 c =
     let pre = start (c .before) .pre in
-    follow-end (pre .0 .shape) (pre .1 .0) (pre .1 .1 .0) (pre .1 .1 .1) (pre .1 .1 .2) (pre .1 .1 .3) (c .before .loop .inv) (c .loop-test .left)
+    follow-end (pre .0 .shape) (pre .1 .0) (pre .1 .1 .0) (pre .1 .1 .1) (pre .1 .1 .2) (pre .1 .1 .3) (c .before .loop .inv)
+    (c .loop-test .left)
 
 pub follow-spec : {M : Type 1} → statement M
 follow-spec =

@@ -15,7 +15,8 @@ abbrev μ-loop : tie.MeasureT-loop
 μ-loop put₀ trail from n none i₀ put i = n - i
 
 -- the turn's entry is one of the list's
-low : (c : tie.In-loop Inv-loop μ-loop) → getD (c .before .before .args .trail .now) (c .before .loop .i) 0 < length (c .before .before .args .put .now)
+low : (c : tie.In-loop Inv-loop μ-loop)
+    → getD (c .before .before .args .trail .now) (c .before .loop .i) 0 < length (c .before .before .args .put .now)
 low c = c .before .before .pre .1 (c .before .loop .i) (c .loop-test .taken)
 
 loop-holds : tie.Need-loop-holds Inv-loop μ-loop

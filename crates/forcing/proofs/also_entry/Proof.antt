@@ -13,10 +13,18 @@ returns : tie.Need-returns
 returns c = inr (record { first = λ _. (refl, refl); same = λ z. absurd (z (c .if2 .taken)); other = λ z. absurd (z (c .if2 .taken)) })
 
 returns-2 : tie.Need-returns-2
-returns-2 c = inr (record { first = λ z. absurd (c .before .before .if2 .left z); same = λ _ _. (refl, refl); other = λ _ z. absurd (z (c .if3 .taken)) })
+returns-2 c = inr (record {
+  first = λ z. absurd (c .before .before .if2 .left z);
+  same = λ _ _. (refl, refl);
+  other = λ _ z. absurd (z (c .if3 .taken));
+})
 
 returns-3 : tie.Need-returns-3
-returns-3 c = inr (record { first = λ z. absurd (c .before .before .if2 .left z); same = λ _ z. absurd (c .if3 .left z); other = λ _ _. refl })
+returns-3 c = inr (record {
+  first = λ z. absurd (c .before .before .if2 .left z);
+  same = λ _ z. absurd (c .if3 .left z);
+  other = λ _ _. refl;
+})
 
 returns-4 : tie.Need-returns-4
 returns-4 c = inl (c .before .possible .ensures .no (c .if1 .left), refl, refl)

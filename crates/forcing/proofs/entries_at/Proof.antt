@@ -64,8 +64,10 @@ loop-again c =
     let inv = t .before .loop .inv in
     let more = t .loop-test .taken in (
       list-more (pre .2) (pre .3) (pre .0) (inv .0) more,
-      entry-also (pairsOf (start (t .before) .args .at .now) (start (t .before) .args .word .now) (start (t .before) .args .cut)) (pre .0) (list-entry (pre .2) (pre .3) (pre .0) (inv .0) more)
-          (list-next (pre .2) (pre .3) (pre .0) (inv .0) more) (inv .1) (⊎-elim (λ x. inl (λ v. x .0 (rw (pre .1) v), x .1, x .2)) inr (c .before .also-entry .ensures)),
+      entry-also (pairsOf (start (t .before) .args .at .now) (start (t .before) .args .word .now) (start (t .before) .args .cut)) (pre .0)
+          (list-entry (pre .2) (pre .3) (pre .0) (inv .0) more)
+          (list-next (pre .2) (pre .3) (pre .0) (inv .0) more) (inv .1)
+          (⊎-elim (λ x. inl (λ v. x .0 (rw (pre .1) v), x .1, x .2)) inr (c .before .also-entry .ensures)),
     )
 
 returns : tie.Need-returns Inv-loop μ-loop

@@ -67,7 +67,8 @@ returns-2 c =
     let t = low (free (tested (g .before) .before)) .before in
     let a = seen (t .before) in
     let pre = start a .pre in
-    force-one (inside-of (pre .0 .card)) (pre .1 .0) (pre .0 .shape) (pre .1 .1) (a .entries-at .ensures) (t .if2 .taken) _ _ _ _ (g .follow .ensures)
+    force-one (inside-of (pre .0 .card)) (pre .1 .0) (pre .0 .shape) (pre .1 .1) (a .entries-at .ensures) (t .if2 .taken) _ _ _ _
+    (g .follow .ensures)
 
 same-length-4 : tie.Need-same-length-4
 same-length-4 c = search needs

@@ -11,7 +11,8 @@ use Rattle.forcing.proofs.force_all.Statement.{statement}
 use Rattle.forcing.proofs.force_all.Tie as tie
 
 abbrev Inv-loop : tie.InvT-loop
-Inv-loop at word cut last prev put₀ trail₀ n count far₀ t₀ put trail far t = Trail (length word) put trail far × Root (pairsOf at word cut) (of put)
+Inv-loop at word cut last prev put₀ trail₀ n count far₀ t₀ put trail far t =
+    Trail (length word) put trail far × Root (pairsOf at word cut) (of put)
 
 abbrev μ-loop : tie.MeasureT-loop
 μ-loop at word cut last prev put₀ trail₀ n count far₀ t₀ put trail far t = length word - t

@@ -24,14 +24,16 @@ count-up-requires : tie.Need-count-up-requires
 count-up-requires c κs =
     let f = c .before .before .before in
     let pre = start f .pre in
-    λ x h. rw (ap length (f .fill .ensures) ∙ length-replicate (length (start (f) .args .count .now)) 0 ∙ pre .1 .1) (pre .0 .card .inside x h)
+    λ x h. rw (ap length (f .fill .ensures) ∙ length-replicate (length (start f .args .count .now)) 0 ∙ pre .1 .1)
+    (pre .0 .card .inside x h)
 
 force-all-requires : tie.Need-force-all-requires
 force-all-requires c κs =
     let u = c .before .before .before .before .before in
     let f = zeroed u in
     let pre = start f .pre in
-    (pre .0, (pre .1 .0, u .count-up .ensures ∙ ap length (f .fill .ensures) ∙ length-replicate (length (start (f) .args .count .now)) 0 ∙ pre .1 .1))
+    let many = ap length (f .fill .ensures) ∙ length-replicate (length (start f .args .count .now)) 0 ∙ pre .1 .1 in
+    (pre .0, (pre .1 .0, u .count-up .ensures ∙ many))
 
 spread-requires : tie.Need-spread-requires
 spread-requires c κs =
@@ -41,7 +43,8 @@ spread-requires c κs =
     let f = zeroed u in
     let pre = start f .pre in
     let g = d .force-all .ensures in
-    (record { card = pre .0 .card; links = pre .0 .links; shape = g .shape }, (g .good (t .if1 .taken), u .count-up .ensures ∙ ap length (f .fill .ensures) ∙ length-replicate (length (start (f) .args .count .now)) 0 ∙ pre .1 .1))
+    let many = ap length (f .fill .ensures) ∙ length-replicate (length (start f .args .count .now)) 0 ∙ pre .1 .1 in
+    (record { card = pre .0 .card; links = pre .0 .links; shape = g .shape }, (g .good (t .if1 .taken), u .count-up .ensures ∙ many))
 
 same-length : tie.Need-same-length
 same-length c = search needs

@@ -11,7 +11,8 @@ use Rattle.forcing.proofs.spread.Statement.{statement}
 use Rattle.forcing.proofs.spread.Tie as tie
 
 abbrev Inv-loop : tie.InvT-loop
-Inv-loop at word cut last prev put₀ trail₀ n count₀ far₀ seen₀ put trail count far seen = Trail (length word) put trail far × Root (pairsOf at word cut) (of put) × (length count ≡ length word)
+Inv-loop at word cut last prev put₀ trail₀ n count₀ far₀ seen₀ put trail count far seen =
+    Trail (length word) put trail far × Root (pairsOf at word cut) (of put) × (length count ≡ length word)
 
 abbrev μ-loop : tie.MeasureT-loop
 μ-loop at word cut last prev put₀ trail₀ n count₀ far₀ seen₀ put trail count far seen = length word - seen
@@ -40,7 +41,8 @@ low c =
     let t = read (c .before) in
     let inv = t .before .loop .inv in
     let e = inv .0 .inside _ (t .loop-test .taken) in
-    rw (c .other .ensures) (other-inside (start (t .before) .pre .0 .card) e (inv .1 .closed .allowed _ e (inv .0 .placed _ (t .loop-test .taken))))
+    rw (c .other .ensures)
+    (other-inside (start (t .before) .pre .0 .card) e (inv .1 .closed .allowed _ e (inv .0 .placed _ (t .loop-test .taken))))
 
 loop-holds : tie.Need-loop-holds Inv-loop μ-loop
 loop-holds c = let pre = c .before .before .before .before .before .before .before .pre in (pre .0 .shape, pre .1 .0, pre .1 .1)
@@ -79,7 +81,8 @@ force-if-requires c κs =
     (record { card = pre .0 .card; links = pre .0 .links; shape = inv .0 }, (inv .1, low o))
 
 add-seen : tie.Need-add-seen Inv-loop μ-loop
-add-seen c = let t = turn (called (c .before)) in omega (arith, t .loop-test .taken, t .before .loop .inv .0 .count, start (t .before) .good)
+add-seen c =
+    let t = turn (called (c .before)) in omega (arith, t .loop-test .taken, t .before .loop .inv .0 .count, start (t .before) .good)
 
 loop-less : tie.Need-loop-less Inv-loop μ-loop
 loop-less c = let t = turn (called (c .before)) in omega (arith, t .loop-test .taken, t .before .loop .inv .0 .count)

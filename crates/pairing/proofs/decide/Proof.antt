@@ -36,8 +36,10 @@ settle-all-requires : tie.Need-settle-all-requires
 settle-all-requires c κs =
     let t = c .before .before in
     let g = chosen (t .before) in
-    let pre = start (root-of (past-root g .before)) .pre in
-    (record { card = pre .0 .card; links = pre .0 .links; shape = g .choose-all .ensures .shape }, g .choose-all .ensures .good (t .if2 .taken) .closed)
+    let pre = start (root-of (past-root g .before)) .pre in (
+      record { card = pre .0 .card; links = pre .0 .links; shape = g .choose-all .ensures .shape },
+      g .choose-all .ensures .good (t .if2 .taken) .closed,
+    )
 
 same-length : tie.Need-same-length
 same-length c = search needs

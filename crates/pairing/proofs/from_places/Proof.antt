@@ -33,7 +33,9 @@ decide-requires c κs =
     let b = c .before .before .before .before .before .before .before .before in
     let l = linked b in
     let pre = start (zeroed l) .pre in
-    begin (start (zeroed l) .args .put .now) (start (zeroed l) .args .count .now) (start (zeroed l) .args .words .now) (pre .0) (l .link .ensures (start (zeroed l) .args .word .now) (sym (pre .1 .0) ∙ sym (length-replicate (length (start (zeroed l) .args .last .now)) 0) ∙ sym (ap length (zeroed l .fill .ensures))))
+    let args = start (zeroed l) .args in
+    let many = sym (pre .1 .0) ∙ sym (length-replicate (length (args .last .now)) 0) ∙ sym (ap length (zeroed l .fill .ensures)) in
+    begin (args .put .now) (args .count .now) (args .words .now) (pre .0) (l .link .ensures (args .word .now) many)
     (pre .1 .2) (pre .1 .3) (pre .1 .4) (pre .1 .5) (b .fill2 .ensures)
 
 same-length : tie.Need-same-length

@@ -14,7 +14,8 @@ abbrev μ-loop : tie.MeasureT-loop
 μ-loop at last₀ prev₀ x₀ last prev x = length at - x
 
 -- the place of the slot is one of the card's
-low : (c : tie.In-loop Inv-loop μ-loop) → getD (c .before .before .args .at .now) (c .before .loop .x) 0 < length (c .before .before .args .last .now)
+low : (c : tie.In-loop Inv-loop μ-loop)
+    → getD (c .before .before .args .at .now) (c .before .loop .x) 0 < length (c .before .before .args .last .now)
 low c = c .before .before .pre .0 (c .before .loop .x) (c .loop-test .taken)
 
 loop-holds : tie.Need-loop-holds Inv-loop μ-loop

@@ -60,7 +60,8 @@ slice-relend-prefix-from-lists-7 : tie.Need-slice-relend-prefix-from-lists-7
 slice-relend-prefix-from-lists-7 c = search needs
 
 slice-aggregate-from-lists-7 : tie.Need-slice-aggregate-from-lists-7
-slice-aggregate-from-lists-7 c = sym (length-take-le _ _ (start (c .before .before .before .before .before .before .before) .pre .1 .in-first))
+slice-aggregate-from-lists-7 c =
+    sym (length-take-le _ _ (start (c .before .before .before .before .before .before .before) .pre .1 .in-first))
 
 from-lists-requires : tie.Need-from-lists-requires
 from-lists-requires c κs =

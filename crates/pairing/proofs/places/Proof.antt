@@ -68,8 +68,9 @@ mul-at-2 c = search needs
 slice-write-at-2 : tie.Need-slice-write-at-2 Inv-loop μ-loop
 slice-write-at-2 c =
     let t = turn c in
-    let a = t .before .loop .at in
-    omega (arith, length-set a (2 * t .before .loop .e) (c .before .before .before .place .result), t .before .loop .inv .slots, t .loop-test .taken)
+    let l = t .before .loop in
+    let same = length-set (l .at) (2 * l .e) (c .before .before .before .place .result) in
+    omega (arith, same, l .inv .slots, t .loop-test .taken)
 
 add-e : tie.Need-add-e Inv-loop μ-loop
 add-e c = search needs

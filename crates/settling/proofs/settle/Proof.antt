@@ -87,8 +87,10 @@ follow-requires-2 c κs =
     let pre = start t .pre in
     let first = one-inside (pre .0 .card) (pre .1 .1) in
     let second = two-inside (pre .0 .card) (pre .1 .1) in
-    let back = undone (pre .0 .shape) (pre .1 .0) (pre .1 .1) first second (d .if2 .left) (f .follow .ensures) (u .undo .ensures) in
-    (record { card = pre .0 .card; links = pre .0 .links; shape = back .shape }, (rw (back .same) (pre .1 .0), (pre .1 .1, rw (back .same) (t .if1 .left), second, inr refl)))
+    let back = undone (pre .0 .shape) (pre .1 .0) (pre .1 .1) first second (d .if2 .left) (f .follow .ensures) (u .undo .ensures) in (
+      record { card = pre .0 .card; links = pre .0 .links; shape = back .shape },
+      (rw (back .same) (pre .1 .0), (pre .1 .1, rw (back .same) (t .if1 .left), second, inr refl)),
+    )
 
 same-length-3 : tie.Need-same-length-3
 same-length-3 c = search needs
@@ -105,7 +107,8 @@ returns-3 c =
     let pre = start (tested (f .before)) .pre in
     let first = one-inside (pre .0 .card) (pre .1 .1) in
     let second = two-inside (pre .0 .card) (pre .1 .1) in
-    settles-two (pre .0 .shape) (pre .1 .0) (pre .1 .1) first second (d .if2 .left) (f .follow .ensures) (u .undo .ensures) (g .follow2 .ensures)
+    settles-two (pre .0 .shape) (pre .1 .0) (pre .1 .1) first second (d .if2 .left) (f .follow .ensures) (u .undo .ensures)
+    (g .follow2 .ensures)
 
 pub settle-spec : {M : Type 1} → statement M
 settle-spec =

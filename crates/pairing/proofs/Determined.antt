@@ -1,0 +1,94 @@
+-- What `pair` promises determines whether there is a build, the words of the first one, and whether there was a free choice; not how many
+-- there were, nor what the lists for work hold. `Post` is the contract as it is read from the source. Assumes nothing.
+use mathlib.Core.Path.{_≡_, refl, sym, ap, _∙_}
+use mathlib.Core.Bool.{Bool, true, false}
+use mathlib.Core.List.{List, []}
+use Prim.Native.Nat.{ℕ, zero, suc, _^_, _<_}
+use native.Mathlib.Omega.{arith}
+use contract.Lifetimes.{Lfts}
+use denote.Ref.{now}
+use denote.Triple.Clauses.{AtExit}
+use borrow.Fn.Kinds.{Dens, resT, endedOf}
+use lib.ListN.{length, take}
+use Rattle.entries.specs.declared.Entry.{Entry}
+use Rattle.entries.specs.declared.Slot.{Slot}
+use Rattle.sequence.specs.Lists.{In}
+use Rattle.sequence.specs.Build.{spell, Build}
+use Rattle.sequence.specs.Verdict.{Verdict, sole, several, noBuild, Tells}
+use Rattle.sequence.proofs.BuildLaws.{worded-one}
+use Rattle.sequence.proofs.VerdictLaws.{tells-one}
+use Rattle.pairs.specs.Described.{verdictBy}
+use Rattle.pairs.specs.Settling.{pairEntries}
+use Rattle.pairing.specs.Paired.{Gives}
+use Rattle.pairing.proofs.CardLaws.{entry-fits}
+use Rattle.pairing.proofs.pair.Kinds as pair-kinds
+use Rattle.pairing.proofs.pair.Reads as pair-reads
+
+-- ---- the choices and the sequence, had back from the verdict
+
+spelledIn : Verdict → List ℕ
+spelledIn (sole s) = s
+spelledIn (several s) = s
+spelledIn noBuild = []
+
+spelled-in : (k : ℕ) (s : List ℕ) → spelledIn (verdictBy k s) ≡ s
+unfolding spelledIn
+spelled-in zero s = refl
+spelled-in (suc k) s = refl
+
+isSole : Verdict → ℕ
+isSole (sole s) = 1
+isSole (several s) = 0
+isSole noBuild = 0
+
+-- no free choice in the one is none in the other
+none-too : (k k′ : ℕ) (s t : List ℕ) → verdictBy k s ≡ verdictBy k′ t → k ≡ 0 → k′ ≡ 0
+unfolding isSole
+none-too zero zero s t e h = refl
+none-too zero (suc k′) s t e h = let z : _≡_ {A = ℕ} 1 0 = ap isSole e in absurd (omega arith)
+none-too (suc k) k′ s t e h = absurd (omega arith)
+
+-- the sequence of either verdict fits
+told-fits : (Fits : List ℕ → Type 0) (k : ℕ) (s : List ℕ) → Tells Fits (verdictBy k s) → Fits s
+told-fits Fits zero s t = t .0
+told-fits Fits (suc k) s t = t .0
+
+found-too : (f f′ : Bool) {l k k′ : ℕ} {es : List Slot} {ws vs : List ℕ} → Gives l es f k ws → Gives l es f′ k′ vs → f ≡ f′
+found-too true true p q = refl
+found-too true false {l} {k} {es} {ws} p q =
+    absurd (q .none refl (spell l ws) (told-fits (Build l (pairEntries es)) k (spell l ws) (p .told refl)))
+found-too false true {l} {k′} {es} {vs} p q =
+    absurd (p .none refl (spell l vs) (told-fits (Build l (pairEntries es)) k′ (spell l vs) (q .told refl)))
+found-too false false p q = refl
+
+-- ---- two outcomes are one
+
+module _ {l k k′ : ℕ} {es : List Slot} {f f′ : Bool} {ws vs : List ℕ} (admitted : (e : Entry) → In e (pairEntries es) → e .word < 4 ^ l)
+    (p : Gives l es f k ws) (q : Gives l es f′ k′ vs) where
+  pub gives-found : f ≡ f′
+  gives-found = found-too f f′ p q
+
+  same : f ≡ true → verdictBy k (spell l ws) ≡ verdictBy k′ (spell l vs)
+  same h =
+      tells-one (Build l (pairEntries es)) (verdictBy k (spell l ws)) (verdictBy k′ (spell l vs)) (p .told h) (q .told (sym gives-found ∙ h))
+
+  pub gives-sole : f ≡ true → k ≡ 0 → k′ ≡ 0
+  gives-sole h = none-too k k′ (spell l ws) (spell l vs) (same h)
+
+  pub gives-words : f ≡ true → ws ≡ vs
+  gives-words h =
+      worded-one admitted (p .worded h) (q .worded (sym gives-found ∙ h))
+      (sym (spelled-in k (spell l ws)) ∙ ap spelledIn (same h) ∙ spelled-in k′ (spell l vs))
+
+pub pair-one : (κs : Lfts 10) (a : Dens κs pair-kinds.ps) (r r′ : resT pair-kinds.r κs .Denot)
+    (e e′ : AtExit (endedOf 10 pair-kinds.ps pair-kinds.r) κs)
+    → pair-reads.Pre κs a
+    → pair-reads.Post κs a r e
+    → pair-reads.Post κs a r′ e′
+    → (r .found ≡ r′ .found)
+    × (r .found ≡ true → r .choices ≡ 0 → r′ .choices ≡ 0)
+    × (r .found ≡ true → take (length (now (a .1 .0))) (now (e .1 .1 .1 .1 .1 .1 .1 .1 .1 .1 .0)) ≡ take (length (now (a .1 .0)))
+    (now (e′ .1 .1 .1 .1 .1 .1 .1 .1 .1 .1 .0)))
+pair-one κs a r r′ e e′ pre p q =
+    let fits = entry-fits (pre .0) in
+    (gives-found fits p q, gives-sole fits p q, gives-words fits p q)
