@@ -12,7 +12,7 @@ use Rattle.answers.specs.Answer.{first, given, refused, sound}
 use Rattle.answers.specs.declared.Refusal.{Refusal}
 use Rattle.answers.proofs.Laws.{first-holds, first-refused, first-both, first-last, first-fail}
 use Rattle.entries.specs.declared.Slot.{Slot}
-use Rattle.entries.specs.Slot.{slotFrom}
+use Rattle.entries.specs.Slot.{slotFrom, entriesIn}
 use Rattle.entries.proofs.Laws.{sound-has}
 use Rattle.layout.specs.Bounds.{mostEntries}
 use Rattle.lists.specs.Lists.{formatFor, listsTests}
@@ -23,7 +23,6 @@ use Rattle.sequence.proofs.ListLaws.{in-row}
 use Rattle.tables.proofs.PartLaws.{Filling, filling-all}
 use Rattle.walk.specs.declared.Walked.{Walked}
 use Rattle.walk.specs.declared.Walked.the-variants.{Sole, Several, None, Unsettled}
-use Rattle.walk.specs.Walked.{entriesIn}
 use Rattle.builds.specs.Answering.{buildTests, wordsAfter, Answered, walked, refuses, Into}
 use Rattle.builds.specs.declared.WalkAnswer.the-variants as is
 

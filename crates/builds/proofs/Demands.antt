@@ -4,6 +4,7 @@ use mathlib.Core.List.{List}
 use Prim.Native.Nat.{ℕ, _≤_}
 use lib.ListN.{length}
 use Rattle.entries.specs.declared.Slot.{Slot}
+use Rattle.entries.specs.Slot.{entriesIn}
 use Rattle.entries.specs.Fault.{span}
 use Rattle.sequence.specs.Lists.{Paired}
 use Rattle.sequence.specs.Verdict.{Outcome, Widens}
@@ -12,7 +13,7 @@ use Rattle.spans.proofs.Meant.{outcome-means, means-one}
 use Rattle.spans.proofs.Compare.{means-later, means-narrowed, means-larger}
 use Rattle.walk.specs.declared.Walked.{Walked}
 use Rattle.walk.specs.declared.Walked.the-variants.{Sole, Several, None, Unsettled}
-use Rattle.walk.specs.Walked.{entriesIn, saysWalked, Walks}
+use Rattle.walk.specs.Walked.{saysWalked, Walks}
 use Rattle.builds.specs.declared.WalkAnswer.{WalkAnswer}
 use Rattle.builds.specs.declared.WalkAnswer.the-variants as is
 use Rattle.builds.specs.Answering.{wordsAfter, Answered, walked}

@@ -12,12 +12,13 @@ use lib.ListN.{length}
 use Rattle.answers.specs.Answer.{Answer, given, refused, Sound, sound}
 use Rattle.answers.specs.declared.Refusal.{Refusal}
 use Rattle.entries.specs.declared.Slot.{Slot}
+use Rattle.entries.specs.Slot.{entriesIn}
 use Rattle.sequence.specs.Verdict.{Outcome}
 use Rattle.sequence.proofs.BuildLaws.{entries-fit}
 use Rattle.spans.proofs.Meant.{means-one}
 use Rattle.walk.specs.declared.Walked.{Walked}
 use Rattle.walk.specs.declared.Walked.the-variants.{Sole, Several, None, Unsettled}
-use Rattle.walk.specs.Walked.{entriesIn, GivesBuild}
+use Rattle.walk.specs.Walked.{GivesBuild}
 use Rattle.walk.proofs.Determined.{Single, right-one, words-one}
 use Rattle.builds.specs.declared.WalkAnswer.{WalkAnswer}
 use Rattle.builds.specs.declared.WalkAnswer.the-variants as is
