@@ -1,18 +1,17 @@
--- Laws of building over lists: the words that are given, each outcome, and what the tests say. Assumes nothing.
+-- Laws of building over lists: the words that are given, the tests and what they say, and the answer where they hold. Assumes nothing.
 use mathlib.Core.Path.{_≡_, sym, ap, _∙_}
-use mathlib.Core.List.{List, [], _++_, append-nil}
+use mathlib.Core.List.{List, [], _∷_, _++_, append-nil}
 use Prim.Native.Nat.{ℕ, _^_, _≤_, _<_}
 use native.Mathlib.Omega.{arith}
 use lib.ListN.{length, getD, take, drop, drop-of-length-le, length-take, take-append-drop}
 use lib.Seq.{ext-getD}
 use lib.Dec.{leb}
-use borrow.Author.Tests.{le-leb, lt-leb}
+use borrow.Author.Tests.{le-leb, lt-leb, leb-true}
 use Rattle.answers.specs.Numbers.{Room}
-use Rattle.answers.specs.Answer.{first, given, refused, sound}
-use Rattle.answers.specs.declared.Refusal.{Refusal}
-use Rattle.answers.proofs.Laws.{first-holds, first-refused, first-both, first-last, first-fail}
+use Rattle.answers.specs.Answer.{test, first, given, refused, sound}
+use Rattle.answers.proofs.Laws.{first-holds, first-refused, first-both, first-passed, first-last, first-fail}
 use Rattle.entries.specs.declared.Slot.{Slot}
-use Rattle.entries.specs.Slot.{slotFrom}
+use Rattle.entries.specs.Slot.{slotFrom, entriesIn}
 use Rattle.entries.proofs.Laws.{sound-has}
 use Rattle.layout.specs.Bounds.{mostEntries}
 use Rattle.lists.specs.Lists.{formatFor, listsTests}
@@ -23,8 +22,7 @@ use Rattle.sequence.proofs.ListLaws.{in-row}
 use Rattle.tables.proofs.PartLaws.{Filling, filling-all}
 use Rattle.walk.specs.declared.Walked.{Walked}
 use Rattle.walk.specs.declared.Walked.the-variants.{Sole, Several, None, Unsettled}
-use Rattle.walk.specs.Walked.{entriesIn}
-use Rattle.builds.specs.Answering.{buildTests, wordsAfter, Answered, walked, refuses, Into}
+use Rattle.builds.specs.Answering.{buildTests, wordsAfter, Answered, walked, Into}
 use Rattle.builds.specs.declared.WalkAnswer.the-variants as is
 
 -- ---- the words that are given
@@ -60,41 +58,39 @@ module _ (m : ℕ) (ws before : List ℕ) (room : m ≤ length before) (all : le
   after-all (None n) = take-append-drop m before
   after-all (Unsettled n) = take-append-drop m before
 
--- ---- each outcome
+-- ---- the tests
 
-module _ {kind l : ℕ} {words ones twos before after : List ℕ} {True : List Slot → Outcome → Type 0} where
-  pub lists-refused : {r : Refusal} → first (listsTests mostEntries kind l words ones twos) sound ≡ refused (r .number) (r .place)
-      → after ≡ before
-      → Answered kind l words ones twos True before (is.Refused r) after
+module _ (kind l : ℕ) (words ones twos : List ℕ) (room : ℕ) where
+  pub lists-refused : {n p : ℕ} → first (listsTests mostEntries kind l words ones twos) sound ≡ refused n p
+      → first (buildTests kind l words ones twos room) sound ≡ refused n p
   unfolding buildTests
-  lists-refused e same = refuses (first-refused _ sound (listsTests mostEntries kind l words ones twos) e) same
+  lists-refused e = first-refused _ sound (listsTests mostEntries kind l words ones twos) e
 
   module _ (hold : first (listsTests mostEntries kind l words ones twos) sound ≡ given sound) where
-    pub no-room : length before < length words → after ≡ before
-        → Answered kind l words ones twos True before (is.Refused (record { number = Room; place = 0 })) after
+    pub no-room : room < length words → first (buildTests kind l words ones twos room) sound ≡ refused Room 0
     unfolding buildTests
-    no-room h same =
-        refuses (first-holds _ sound (listsTests mostEntries kind l words ones twos) hold
-        ∙ first-fail (leb (length words) (length before)) Room 0 [] sound (lt-leb (length words) (length before) h)) same
+    no-room h =
+        first-holds _ sound (listsTests mostEntries kind l words ones twos) hold
+        ∙ first-fail (leb (length words) room) Room 0 [] sound (lt-leb (length words) room h)
 
-    pub answered : {r : Walked} {given-words : List ℕ} → length words ≤ length before
-        → Into kind l words ones twos True r (take (length words) before) given-words
-        → after ≡ given-words ++ drop (length words) before
-        → Answered kind l words ones twos True before (is.Walked r) after
+    pub has-room : length words ≤ room → first (buildTests kind l words ones twos room) sound ≡ given sound
     unfolding buildTests
-    answered {r} h w e =
-        walked (first-holds _ sound (listsTests mostEntries kind l words ones twos) hold
-        ∙ first-last (leb (length words) (length before)) Room 0 sound (le-leb (length words) (length before) h))
-        (w .right)
-        (e ∙ ap (λ (x : List ℕ). x ++ drop (length words) before) (w .output)
-        ∙ after-all (length words) (w .found) before h (w .all) r)
+    has-room h =
+        first-holds _ sound (listsTests mostEntries kind l words ones twos) hold
+        ∙ first-last (leb (length words) room) Room 0 sound (le-leb (length words) room h)
 
--- ---- lists and an output whose tests hold
-
+-- lists and an output whose tests hold
 module _ (kind l : ℕ) (words ones twos : List ℕ) (room : ℕ) (e : first (buildTests kind l words ones twos room) sound ≡ given sound) where
-  pub lists-too : first (listsTests mostEntries kind l words ones twos) sound ≡ given sound
+  parts : (first (listsTests mostEntries kind l words ones twos) sound ≡ given sound)
+      × (first (test (leb (length words) room) Room 0 ∷ []) sound ≡ given sound)
   unfolding buildTests
-  lists-too = first-both _ sound (listsTests mostEntries kind l words ones twos) sound e .0
+  parts = first-both _ sound (listsTests mostEntries kind l words ones twos) sound e
+
+  pub lists-too : first (listsTests mostEntries kind l words ones twos) sound ≡ given sound
+  lists-too = parts .0
+
+  pub room-too : length words ≤ room
+  room-too = leb-true (length words) room (first-passed _ _ _ _ _ _ (parts .1) .0)
 
   -- each word has l letters
   pub slots-fit : (s : Slot) → In s (entriesIn words ones twos) → s .word < 4 ^ l
@@ -102,3 +98,15 @@ module _ (kind l : ℕ) (words ones twos : List ℕ) (room : ℕ) (e : first (bu
       let has : Accepted mostEntries kind l words ones twos = lists-accepted lists-too in
       let u = in-row (slotFrom words ones twos) 0 (length words) h in
       rw (u .2) (sound-has (formatFor kind l words) (u .0) (slotFrom words ones twos (u .0)) (has .entries (u .0) (omega (arith, u .1))) .0)
+
+-- ---- the answer, from that for an output of just as many elements as there are entries
+
+pub answered : {kind l : ℕ} {words ones twos before after given-words : List ℕ} {True : List Slot → Outcome → Type 0} {r : Walked}
+    → first (buildTests kind l words ones twos (length before)) sound ≡ given sound
+    → Into kind l words ones twos True r (take (length words) before) given-words
+    → after ≡ given-words ++ drop (length words) before
+    → Answered kind l words ones twos True before (is.Walked r) after
+answered {kind} {l} {words} {ones} {twos} {before} {r} hold w e =
+    walked hold (w .right)
+    (e ∙ ap (λ (x : List ℕ). x ++ drop (length words) before) (w .output)
+    ∙ after-all (length words) (w .found) before (room-too kind l words ones twos (length before) hold) (w .all) r)

@@ -1,5 +1,5 @@
--- The contract of `walk_lists` determines the outcome: two answers, with what the output holds afterwards, that both meet it at the same
--- input are equal. `Post` is the contract as it is read from the source. Assumes nothing.
+-- The contracts of `walk_lists` and `pair_lists` determine the outcome: two answers, with what the output holds afterwards, that both meet
+-- one at the same input are equal. `Post` is the contract as it is read from the source. Assumes nothing.
 use mathlib.Core.Path.{_≡_, refl, sym, ap, _∙_}
 use mathlib.Core.List.{List}
 use Prim.Native.Nat.{ℕ}
@@ -12,12 +12,14 @@ use lib.ListN.{length}
 use Rattle.answers.specs.Answer.{Answer, given, refused, Sound, sound}
 use Rattle.answers.specs.declared.Refusal.{Refusal}
 use Rattle.entries.specs.declared.Slot.{Slot}
+use Rattle.entries.specs.Slot.{entriesIn}
 use Rattle.sequence.specs.Verdict.{Outcome}
 use Rattle.sequence.proofs.BuildLaws.{entries-fit}
-use Rattle.spans.proofs.Meant.{means-one}
+use Rattle.spans.proofs.Meant as spans
+use Rattle.pairs.proofs.Meant as pairs
 use Rattle.walk.specs.declared.Walked.{Walked}
 use Rattle.walk.specs.declared.Walked.the-variants.{Sole, Several, None, Unsettled}
-use Rattle.walk.specs.Walked.{entriesIn, GivesBuild}
+use Rattle.walk.specs.Walked.{GivesBuild}
 use Rattle.walk.proofs.Determined.{Single, right-one, words-one}
 use Rattle.builds.specs.declared.WalkAnswer.{WalkAnswer}
 use Rattle.builds.specs.declared.WalkAnswer.the-variants as is
@@ -25,6 +27,8 @@ use Rattle.builds.specs.Answering.{wordsAfter, Answered, walked, refuses
 use Rattle.builds.proofs.AnsweringLaws.{slots-fit}
 use Rattle.builds.proofs.walk_lists.Kinds as walk-lists
 use Rattle.builds.proofs.walk_lists.Reads as walk-lists-reads
+use Rattle.builds.proofs.pair_lists.Kinds as pair-lists
+use Rattle.builds.proofs.pair_lists.Reads as pair-lists-reads
 
 -- the output after two answers with the same words, where words are given, is one
 after-one : (r : Walked) {ws vs : List ℕ} (before : List ℕ) → (GivesBuild r → ws ≡ vs) → wordsAfter r ws before ≡ wordsAfter r vs before
@@ -66,4 +70,11 @@ pub walk-lists-one : (κs : Lfts 4) (a : Dens κs walk-lists.ps) (r r′ : resT 
     → walk-lists-reads.Post κs a r e
     → walk-lists-reads.Post κs a r′ e′
     → (r ≡ r′) × (now (e .1 .1 .1 .1 .1 .0) ≡ now (e′ .1 .1 .1 .1 .1 .0))
-walk-lists-one κs a r r′ e e′ p q = answered-one (λ es o o′. means-one) p q
+walk-lists-one κs a r r′ e e′ p q = answered-one (λ es o o′. spans.means-one) p q
+
+pub pair-lists-one : (κs : Lfts 4) (a : Dens κs pair-lists.ps) (r r′ : resT pair-lists.r κs .Denot)
+    (e e′ : AtExit (endedOf 4 pair-lists.ps pair-lists.r) κs)
+    → pair-lists-reads.Post κs a r e
+    → pair-lists-reads.Post κs a r′ e′
+    → (r ≡ r′) × (now (e .1 .1 .1 .1 .0) ≡ now (e′ .1 .1 .1 .1 .0))
+pair-lists-one κs a r r′ e e′ p q = answered-one (λ es o o′. pairs.means-one) p q

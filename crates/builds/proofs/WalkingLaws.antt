@@ -4,12 +4,12 @@ use mathlib.Core.List.{List}
 use Prim.Native.Nat.{ℕ}
 use native.Mathlib.Omega.{arith}
 use Rattle.answers.specs.Answer.{first, given, sound}
+use Rattle.entries.specs.Slot.{entriesIn}
 use Rattle.entries.specs.Fault.{span}
 use Rattle.layout.specs.Bounds.{mostEntries}
 use Rattle.lists.proofs.KindLaws.{SpanLists, lists-span}
 use Rattle.spans.specs.Settling.{Entered}
 use Rattle.tables.specs.Spans.{Spans}
-use Rattle.walk.specs.Walked.{entriesIn}
 use Rattle.walk.proofs.WholeLaws.{entered}
 use Rattle.builds.specs.Answering.{buildTests}
 use Rattle.builds.proofs.AnsweringLaws.{lists-too}

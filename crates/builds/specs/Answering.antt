@@ -17,13 +17,14 @@ use Rattle.answers.specs.Numbers.{Room}
 use Rattle.answers.specs.Answer.{Test, test, first, given, refused, sound}
 use Rattle.answers.specs.declared.Refusal.{Refusal}
 use Rattle.entries.specs.declared.Slot.{Slot}
+use Rattle.entries.specs.Slot.{entriesIn}
 use Rattle.entries.specs.Entry.{entryOf}
 use Rattle.layout.specs.Bounds.{mostEntries}
 use Rattle.lists.specs.Lists.{listsTests}
 use Rattle.sequence.specs.Verdict.{Outcome}
 use Rattle.walk.specs.declared.Walked.{Walked}
 use Rattle.walk.specs.declared.Walked.the-variants.{Sole, Several, None, Unsettled}
-use Rattle.walk.specs.Walked.{entriesIn, Right}
+use Rattle.walk.specs.Walked.{Right}
 use Rattle.builds.specs.declared.WalkAnswer.{WalkAnswer}
 use Rattle.builds.specs.declared.WalkAnswer.the-variants as is
 

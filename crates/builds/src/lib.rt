@@ -1,24 +1,48 @@
-// Building over lists: the tests of the lists and of the output, then the method. `walk_lists` has no `requires`: it tests its own input.
+// Building over lists: the tests of the lists and of the output, then the method. `walk_lists` and `pair_lists` have no `requires`: they
+// test their own input.
 ghost use mathlib.Core.Path.{_≡_};
 ghost use Prim.Native.Nat.{_≤_};
 ghost use lib.ListN.{length};
-ghost use Rattle.entries.specs.Fault.{span};
+ghost use Rattle.answers.specs.Answer.{first, sound, saysHeld};
+ghost use Rattle.entries.specs.Fault.{pair, span};
 ghost use Rattle.layout.specs.Bounds.{mostEntries};
-ghost use Rattle.spans.specs.Settling.{Means};
+ghost use Rattle.spans.specs.Settling as spans;
+ghost use Rattle.pairs.specs.Settling as pairs;
 ghost use Rattle.tables.specs.Spans.{Spans};
-ghost use Rattle.builds.specs.Answering.{wordsAfter, Answered, Into};
+ghost use Rattle.pairing.specs.Paired.{PairCard};
+ghost use Rattle.builds.specs.Answering.{buildTests, wordsAfter, Answered, Into};
+ghost use Rattle.builds.specs.Pairing.{foundAs};
 use answers::Held;
 use answers::Refusal;
 use layout::MOST;
+use pairing::Paired;
 use walk::Walked;
 
 // The slots of the lists of all places together: each entry may stand at so many places.
 const SLOTS: usize = entries::WIDEST as usize * MOST;
 
-// What walking lists answers: what the walk comes to, or the refusal.
+// What building over lists answers: what the method comes to, or the refusal.
 pub enum WalkAnswer {
     Walked(Walked),
     Refused(Refusal),
+}
+
+// The lists of a card of this kind, and then the room for a word of each entry.
+fn tests_hold(kind: usize, l: usize, words: &[u32], ones: &[u16], twos: &[u16], room: usize) -> Held
+    ensures { λ r. ⌜
+        saysHeld r ≡ first (buildTests kind l (now (words .entry)) (now (ones .entry)) (now (twos .entry)) room) sound
+        ⌝ }
+{
+    if let Held::Refused(r) = lists::lists_hold(kind, l, words, ones, twos) {
+        return Held::Refused(r);
+    }
+    if room < words.len() {
+        return Held::Refused(Refusal {
+            number: answers::ROOM,
+            place: 0,
+        });
+    }
+    Held::Holds
 }
 
 // Copies the words over all of an output that has their number.
@@ -64,7 +88,7 @@ fn walk_into(
         (now (words .entry))
         (now (ones .entry))
         (now (twos .entry))
-        (λ es. Means l es budget)
+        (λ es. spans.Means l es budget)
         r
         (now (out .entry))
         (now (out .exit))
@@ -113,21 +137,100 @@ pub fn walk_lists(
         (now (words .entry))
         (now (ones .entry))
         (now (twos .entry))
-        (λ es. Means l es budget)
+        (λ es. spans.Means l es budget)
         (now (out .entry))
         r
         (now (out .exit))
         ⌝ }
 {
-    if let Held::Refused(r) = lists::lists_hold(entries::SPAN, l, words, ones, twos) {
+    if let Held::Refused(r) = tests_hold(entries::SPAN, l, words, ones, twos, out.len()) {
         return WalkAnswer::Refused(r);
     }
     let m = words.len();
-    if out.len() < m {
-        return WalkAnswer::Refused(Refusal {
-            number: answers::ROOM,
-            place: 0,
-        });
-    }
     WalkAnswer::Walked(walk_into(l, words, ones, twos, budget, &mut out[..m]))
+}
+
+// What the method for pair lists comes to by what it finds: each free choice doubles the builds. It makes no placements.
+fn found_as(p: Paired) -> Walked
+    ensures { λ r. ⌜ r ≡ foundAs (p .found) (p .choices) ⌝ }
+{
+    if p.found {
+        if p.choices == 0 {
+            return Walked::Sole(0);
+        }
+        return Walked::Several(0);
+    }
+    Walked::None(0)
+}
+
+// The method for pair lists that hold, with lists of its own to work in.
+fn pair_into(l: usize, words: &[u32], ones: &[u16], twos: &[u16], out: &mut [u32]) -> Walked
+    requires { ⌜ PairCard l (now words) (now ones) (now twos) ⌝ }
+    requires { ⌜ (length (now words) ≤ mostEntries) × (length (now out) ≡ length (now words)) ⌝ }
+    ensures { λ r. ⌜
+        Into
+        pair
+        l
+        (now (words .entry))
+        (now (ones .entry))
+        (now (twos .entry))
+        (pairs.Means l)
+        r
+        (now (out .entry))
+        (now (out .exit))
+        ⌝ }
+{
+    let m = words.len();
+    let mut at = [0; 2 * MOST];
+    let mut last = [0; MOST];
+    let mut prev = [0; 2 * MOST];
+    let mut put = [0; MOST];
+    let mut trail = [0; MOST];
+    let mut count = [0; MOST];
+    let mut found = [0; MOST];
+    let p = pairing::pair(
+        l,
+        words,
+        ones,
+        twos,
+        &mut at,
+        &mut last,
+        &mut prev,
+        &mut put,
+        &mut trail,
+        &mut count,
+        &mut found,
+    );
+    let r = found_as(p);
+    give_words(out, &found[..m], r);
+    r
+}
+
+// Builds from the lists of a pair card. Where there is a build, the words of the alphabetically first one stand at the start of the output,
+// whose later elements are as they were; with every other answer all of it is as it was.
+pub fn pair_lists(
+    l: usize,
+    words: &[u32],
+    ones: &[u16],
+    twos: &[u16],
+    out: &mut [u32],
+) -> WalkAnswer
+    ensures { λ r. ⌜
+        Answered
+        pair
+        l
+        (now (words .entry))
+        (now (ones .entry))
+        (now (twos .entry))
+        (pairs.Means l)
+        (now (out .entry))
+        r
+        (now (out .exit))
+        ⌝ }
+{
+    if let Held::Refused(r) = tests_hold(entries::PAIR, l, words, ones, twos, out.len()) {
+        return WalkAnswer::Refused(r);
+    }
+    let m = words.len();
+    WalkAnswer::Walked(pair_into(l, words, ones, twos, &mut out[..m]))
 }

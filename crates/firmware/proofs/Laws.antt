@@ -8,13 +8,11 @@ use Rattle.block.specs.Block.{blockBytes, fetchTests, fetchOf}
 use Rattle.block.proofs.Laws.{holds-there, fetch-none, fetch-some, part-none, part-some, part-length}
 use Rattle.entries.specs.declared.Entry.{Entry}
 use Rattle.card.specs.Fetching.{more}
-use Rattle.builds.specs.declared.WalkAnswer as walking
 use Rattle.firmware.specs.declared.Shape.{Shape}
 use Rattle.firmware.specs.declared.EntryAnswer.{EntryAnswer}
 use Rattle.firmware.specs.declared.StepAnswer.{StepAnswer}
 use Rattle.firmware.specs.declared.PartAnswer.{PartAnswer}
-use Rattle.firmware.specs.declared.walking.WalkAnswer.{WalkAnswer}
-use Rattle.firmware.specs.Flat.{shapeOf, entryAnswer, stepAnswer, partAnswer, walkAnswer, Told}
+use Rattle.firmware.specs.Flat.{shapeOf, entryAnswer, stepAnswer, partAnswer}
 
 -- ---- an enum that says what an answer is
 
@@ -70,10 +68,3 @@ module _ (card : List ℕ) (k : ℕ) {part : List ℕ} (e : part ≡ fetchOf car
     pub part-flat :
         _≡_ {A = PartAnswer} (record { at = blockBytes * k; length = length part }) (partAnswer k (first (fetchTests card k) sound))
     part-flat = (λ i. record { at = blockBytes * k; length = part-length card k e some i }) ∙ ap (partAnswer k) (sym holds)
-
--- ---- building over lists
-
--- the answer r is the case x, and the struct is what x says
-pub walk-told : {Answers : walking.WalkAnswer → List ℕ → Type 0} {after : List ℕ} {r x : walking.WalkAnswer} {result : WalkAnswer}
-    → Answers r after → r ≡ x → result ≡ walkAnswer x → Told Answers result after
-walk-told {r} answered e told = record { answer = r; answered = answered; told = told ∙ ap walkAnswer (sym e) }

@@ -7,7 +7,7 @@
 --   heldAnswer r       == the companion of a fetch
 --   partAnswer k r     == fetching block k: where in the card it starts, and its bytes
 --   writeAnswer r      == writing: the card's length
---   walkedAnswer w     == a walk that nothing refused: its verdict and its placements
+--   walkedAnswer w     == building that nothing refused: its verdict and its placements
 --   walkAnswer r       == building over lists
 --   Told Answers result after
 --                      == the struct `result`, and every element of the output afterwards, are those of what building over lists answers,

@@ -1,12 +1,12 @@
-// The walk over span lists, for C.
+// The walk over span lists, for C, and what building over lists answers as numbers.
 ghost use mathlib.Core.Path.{_≡_};
 ghost use Rattle.entries.specs.Fault.{span};
 ghost use Rattle.spans.specs.Settling.{Means};
 ghost use Rattle.builds.specs.Answering.{Answered};
-ghost use Rattle.firmware.specs.Flat.{settledAnswer, walkedAnswer, Told};
+ghost use Rattle.firmware.specs.Flat.{settledAnswer, walkedAnswer, walkAnswer, Told};
 use walk::Walked;
 
-// The verdicts of a walk.
+// The verdicts.
 const SOLE: usize = 1;
 
 const SEVERAL: usize = 2;
@@ -15,8 +15,8 @@ const NONE: usize = 3;
 
 const UNSETTLED: usize = 4;
 
-// What walking lists answers. The number is 0 where nothing is refused, with the verdict and the placements; else it is the refusal's,
-// with its place, and the rest is 0.
+// What building over lists answers. The number is 0 where nothing is refused, with the verdict and the placements; else it is the
+// refusal's, with its place, and the rest is 0.
 #[repr(C)]
 pub struct WalkAnswer {
     pub number: usize,
@@ -49,6 +49,21 @@ fn walked(w: Walked) -> WalkAnswer
     }
 }
 
+// What building over lists answers as numbers.
+pub fn told(a: builds::WalkAnswer) -> WalkAnswer
+    ensures { λ r. ⌜ r ≡ walkAnswer a ⌝ }
+{
+    match a {
+        builds::WalkAnswer::Walked(w) => walked(w),
+        builds::WalkAnswer::Refused(r) => WalkAnswer {
+            number: r.number,
+            place: r.place,
+            verdict: 0,
+            placements: 0,
+        },
+    }
+}
+
 // The verdict over the lists of a span card. Where there is a build, the words of the alphabetically first one stand at the start of the
 // output, whose later elements are as they were; with every other answer all of it is as it was.
 #[no_mangle]
@@ -67,13 +82,5 @@ pub extern "C" fn belfrymist_walk(
         (now (out .exit))
         ⌝ }
 {
-    match builds::walk_lists(l, words, ones, twos, budget, out) {
-        builds::WalkAnswer::Walked(w) => walked(w),
-        builds::WalkAnswer::Refused(r) => WalkAnswer {
-            number: r.number,
-            place: r.place,
-            verdict: 0,
-            placements: 0,
-        },
-    }
+    told(builds::walk_lists(l, words, ones, twos, budget, out))
 }

@@ -13,7 +13,7 @@ use Rattle.entries.specs.Fault.{span}
 use Rattle.entries.specs.Entry.{entryOf}
 use Rattle.sequence.specs.Lists.{In, first, later, Paired, Rising, rises, keep}
 use Rattle.sequence.specs.Build.{spell, Build}
-use Rattle.sequence.specs.Verdict.{Before, Widens, Verdict, Outcome, sole, several, noBuild, settled}
+use Rattle.sequence.specs.Verdict.{Before, Widens, Verdict, Tells, NoLater, Outcome, sole, several, noBuild, settled}
 use Rattle.sequence.proofs.ListLaws.{in-keep, keep-in, rising-shorter}
 use Rattle.sequence.proofs.ReorderedLaws.{map-paired, paired-each}
 use Rattle.sequence.proofs.OrderLaws.{before-irr}
@@ -65,6 +65,16 @@ few-builds {l} {es} entered one = go (builds l es) (builds-rising l es) (λ ws h
 
 -- ---- two cards
 
+-- no later, and in no more placements
+pub no-later-narrowed : (v v′ : Verdict) {m n : ℕ} → NoLater v v′ → m ≤ n → Narrowed (settled v m) (settled v′ n)
+no-later-narrowed (sole s) (sole t) {m} e h = (m, inr (ap (λ x. settled (sole x) m) (sym e)), h)
+no-later-narrowed (several s) (sole t) e h = absurd e
+no-later-narrowed noBuild (sole t) {m} e h = (m, inl refl, h)
+no-later-narrowed v (several t) e h = tt
+no-later-narrowed (sole s) noBuild e h = absurd e
+no-later-narrowed (several s) noBuild e h = absurd e
+no-later-narrowed noBuild noBuild {m} e h = (m, refl, h)
+
 wider-of : (a b : Slot) → a .one ≤ a .two → Widens (entryOf span a) (entryOf span b) → Wider 0 a b
 wider-of a b own w =
     let least = is-allowed b (a .one) (w .places (a .one) (allowed-is a (a .one) (record { begun = omega arith; lasts = own }))) in
@@ -114,32 +124,20 @@ module _ {l : ℕ} {es es′ : List Slot} (entered : Entered l es) (entered′ :
   means-later (goes-on a b) q = tt
 
   module _ {budget : ℕ} where
-    narrowed-none : {o : Outcome} (n : ℕ) → Means l es budget o → placements l es ≤ n → n ≤ budget
-        → ((s : List ℕ) → Build l (spanEntries es′) s → ⊥)
-        → Narrowed o (settled noBuild n)
-    narrowed-none n (settles {v = sole s} a b t) h g no-build = absurd (no-build s (more s (t .0)))
-    narrowed-none n (settles {v = several s} a b t) h g no-build = absurd (no-build s (more s (t .0)))
-    narrowed-none n (settles {v = noBuild} {n = m} a b t) h g no-build = (m, refl, omega arith)
-    narrowed-none n (goes-on a b) h g no-build = absurd (omega arith)
-
-    narrowed-sole : {o : Outcome} (u : List ℕ) (n : ℕ) → Means l es budget o → placements l es ≤ n → n ≤ budget
-        → ((s : List ℕ) → Build l (spanEntries es′) s → s ≡ u)
-        → Narrowed o (settled (sole u) n)
-    narrowed-sole u n (settles {v = sole s} {n = m} a b t) h g one =
-        (m, inr (ap (λ x. settled (sole x) m) (one s (more s (t .0)))), omega arith)
-    narrowed-sole u n (settles {v = several s} a b t) h g one =
-        let other = t .1 in
-        absurd (other .2 (one (other .0) (more (other .0) (other .1)) ∙ sym (one s (more s (t .0)))))
-    narrowed-sole u n (settles {v = noBuild} {n = m} a b t) h g one = (m, inl refl, omega arith)
-    narrowed-sole u n (goes-on a b) h g one = absurd (omega arith)
+    narrowed : {o : Outcome} (v′ : Verdict) (n : ℕ) → Means l es budget o → Tells (Build l (spanEntries es′)) v′ → placements l es ≤ n
+        → n ≤ budget
+        → Narrowed o (settled v′ n)
+    narrowed v′ n (settles {v} a b t) u h g =
+        no-later-narrowed v v′ (tells-no-later (Build l (spanEntries es)) (Build l (spanEntries es′)) more v v′ t u) (omega arith)
+    narrowed v′ n (goes-on a b) u h g = absurd (omega arith)
 
     -- "it settles the first in no more placements, as none or that same sole sequence"
     pub means-narrowed : {o o′ : Outcome} → Means l es budget o → Means l es′ budget o′ → Narrowed o o′
     means-narrowed p (settles {v = sole u} {n} a b t) =
-        let h = placements-fewer (λ s r c d. t .1 s c ∙ sym (t .1 r d)) in narrowed-sole u n p (omega arith) b (t .1)
+        let h = placements-fewer (λ s r c d. t .1 s c ∙ sym (t .1 r d)) in narrowed (sole u) n p t (omega arith) b
     means-narrowed p (settles {v = several u} a b t) = tt
     means-narrowed p (settles {v = noBuild} {n} a b t) =
-        let h = placements-fewer (λ s r c d. absurd (t s c)) in narrowed-none n p (omega arith) b t
+        let h = placements-fewer (λ s r c d. absurd (t s c)) in narrowed noBuild n p t (omega arith) b
     means-narrowed p (goes-on a b) = tt
 
 -- "On one card, a settled answer and its placements stay the same under every larger budget."

@@ -9,6 +9,7 @@ use denote.Triple.Clauses.{AtExit}
 use borrow.Fn.Kinds.{Dens, resT, endedOf}
 use lib.ListN.{length, take}
 use Rattle.entries.specs.declared.Entry.{Entry}
+use Rattle.entries.specs.Slot.{entriesIn}
 use Rattle.entries.specs.Fault.{span}
 use Rattle.sequence.specs.Lists.{In}
 use Rattle.sequence.specs.Build.{spell}
@@ -17,7 +18,7 @@ use Rattle.sequence.proofs.BuildLaws.{entries-fit, worded-one}
 use Rattle.spans.proofs.Meant.{means-one}
 use Rattle.walk.specs.declared.Walked.{Walked}
 use Rattle.walk.specs.declared.Walked.the-variants.{Sole, Several, None, Unsettled}
-use Rattle.walk.specs.Walked.{entriesIn, saysWalked, GivesBuild, Right}
+use Rattle.walk.specs.Walked.{saysWalked, GivesBuild, Right}
 use Rattle.walk.proofs.WholeLaws.{entered}
 use Rattle.walk.proofs.walk.Kinds as walk-kinds
 use Rattle.walk.proofs.walk.Reads as walk-reads

@@ -11,7 +11,7 @@ use borrow.Author.Tests.{eq-eqb}
 use Rattle.answers.specs.Row.{row}
 use Rattle.answers.proofs.RowLaws.{row-none, row-first, length-row}
 use Rattle.entries.specs.declared.Slot.{Slot}
-use Rattle.entries.specs.Slot.{slotFrom}
+use Rattle.entries.specs.Slot.{slotFrom, entriesIn}
 use Rattle.entries.proofs.SlotLaws.{slot-from}
 use Rattle.sequence.specs.Lists.{keep, numbers}
 use Rattle.sequence.specs.Build.{Worded}
@@ -26,7 +26,7 @@ use Rattle.tables.specs.Prepared.{Prepared}
 use Rattle.tables.proofs.PartLaws.{Filling, filling-all}
 use Rattle.walk.specs.Steps.{isLeft, spanAt, left, Unmarked, walkedAt}
 use Rattle.walk.specs.Going.{Shows, none-yet, one-build, two-builds, stopped, Ready, at-first, Went}
-use Rattle.walk.specs.Walked.{entriesIn, Walks}
+use Rattle.walk.specs.Walked.{Walks}
 use Rattle.walk.proofs.SpanLaws.{spans-rise}
 
 -- ---- every entry is left

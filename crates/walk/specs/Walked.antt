@@ -1,6 +1,5 @@
 -- What a walk over lists answers, and what that means.
 --   mostBudget                     == the largest budget
---   entriesIn words ones twos      == the entries of the lists, in the order of their indices
 --   saysWalked l ws r              == what the enum `Walked` says, where ws are the words that are given with it
 --   GivesBuild r                   == r gives a build
 --   Right l es True r ws           == r says what is true, where `True o` says so of an outcome o, and where it gives a build, ws are the
@@ -9,11 +8,8 @@
 -- Assumes nothing.
 use mathlib.Core.List.{List}
 use Prim.Native.Nat.{ℕ}
-use lib.ListN.{length}
-use Rattle.answers.specs.Row.{row}
 use Rattle.entries.specs.declared.Slot.{Slot}
 use Rattle.entries.specs.declared.Entry.{Entry}
-use Rattle.entries.specs.Slot.{slotFrom}
 use Rattle.sequence.specs.Build.{spell, Worded}
 use Rattle.sequence.specs.Verdict.{sole, several, noBuild, Outcome, settled, unsettled}
 use Rattle.spans.specs.Settling.{spanEntries, Means}
@@ -23,9 +19,6 @@ use Rattle.walk.specs.declared.Walked.the-variants.{Sole, Several, None,
 -- "A budget is 0 to 4,294,967,295."
 abbrev pub mostBudget : ℕ
 mostBudget = 4294967295
-
-abbrev pub entriesIn : List ℕ → List ℕ → List ℕ → List Slot
-entriesIn words ones twos = row (slotFrom words ones twos) 0 (length words)
 
 -- "Build answers Sole, Several, None, Unsettled […], each with its own numbers"
 abbrev pub saysWalked : ℕ → List ℕ → Walked → Outcome

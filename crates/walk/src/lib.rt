@@ -4,9 +4,10 @@ ghost use mathlib.Core.Bool.{cond};
 ghost use Prim.Native.Nat.{_≤_, _<_};
 ghost use lib.Dec.{eqb};
 ghost use lib.ListN.{length, getD, set, take};
+ghost use Rattle.entries.specs.Slot.{entriesIn};
 ghost use Rattle.tables.specs.Spans.{Spans};
 ghost use Rattle.tables.specs.Room.{Room};
-ghost use Rattle.walk.specs.Walked.{mostBudget, entriesIn, Walks};
+ghost use Rattle.walk.specs.Walked.{mostBudget, Walks};
 ghost use Rattle.walk.specs.Steps.{Unmarked, walkedAt, agrees, canTry, isDue, Listed, Opened, Next, Placed};
 ghost use Rattle.walk.specs.Going.{Ready, Went};
 
