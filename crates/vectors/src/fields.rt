@@ -26,6 +26,21 @@ pub enum Field {
     Cut,
 }
 
+// The letters of a word, the lengths of three lists, words, place one and place two, and the length of an output.
+pub struct Sizes {
+    pub l: usize,
+    pub a: usize,
+    pub b: usize,
+    pub c: usize,
+    pub room: usize,
+}
+
+// The sizes, or that the input ends before they do.
+pub enum Sized {
+    Are(Sizes),
+    Cut,
+}
+
 // The tag of the next record.
 pub fn next_tag() -> Tag {
     let mut bytes = [0u8; 1];
@@ -110,4 +125,37 @@ pub fn places(list: &mut [u16]) -> bool
     let mut bytes = [0u8; PLACE * SLOTS];
     let n = PLACE * list.len();
     take_places(&mut bytes[..n], list)
+}
+
+// The letters of a word in eight bytes, and each length in two.
+pub fn next_sizes() -> Sized {
+    let Field::Is(l) = eight() else {
+        return Sized::Cut;
+    };
+    let Field::Is(a) = two() else {
+        return Sized::Cut;
+    };
+    let Field::Is(b) = two() else {
+        return Sized::Cut;
+    };
+    let Field::Is(c) = two() else {
+        return Sized::Cut;
+    };
+    let Field::Is(room) = two() else {
+        return Sized::Cut;
+    };
+    Sized::Are(Sizes { l, a, b, c, room })
+}
+
+// Reads as many words, places one and places two as the lists have slots, and answers whether the input has them.
+pub fn lists(list: &mut [u32], ones: &mut [u16], twos: &mut [u16]) -> bool
+    requires { ⌜ (length (now list) ≤ slots) × (length (now ones) ≤ slots) × (length (now twos) ≤ slots) ⌝ }
+{
+    if !words(list) {
+        return false;
+    }
+    if !places(ones) {
+        return false;
+    }
+    places(twos)
 }

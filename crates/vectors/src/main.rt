@@ -18,14 +18,17 @@
 //                  walk over span lists like those of W (the budget in four bytes), with an output of `room` words, each of which holds
 //                  305,419,896 before the call
 //                                       `sole PLACEMENTS HASH`, or `several`, `none` or `unsettled` in its place
-// A call that refuses prints `refused N P`, for L with the three hashes after it, for W, R and S with the output's. PLACES is `one P`,
+//     P l a b c room words ones twos
+//                  build from pair lists like those of W, with an output like that of S
+//                                       the line of S, with placements 0
+// A call that refuses prints `refused N P`, for L with the three hashes after it, for W, R, S and P with the output's. PLACES is `one P`,
 // `two P Q` or `span F G`. i, `at`, k, kind and l have eight bytes; a, b, c and `room` have two, and are at most 600, but `room` of W and
 // R at most 6,400. A record that is none of these, or is cut, ends the run with the line `bad record`.
+mod building;
 mod fields;
 mod hashes;
 mod lines;
 mod records;
-mod walking;
 mod writing;
 
 ghost use mathlib.Core.Path.{_≡_};

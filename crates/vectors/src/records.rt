@@ -1,13 +1,13 @@
 // The operations that a record can call, and the line that each prints.
 ghost use Prim.Native.Nat.{_+_, _*_, _≤_};
 ghost use Rattle.vectors.specs.Line.{lineBytes, digits};
+use crate::building;
 use crate::fields;
 use crate::fields::Field;
 use crate::fields::OLD_WORD;
 use crate::fields::SLOTS;
 use crate::hashes;
 use crate::lines::Line;
-use crate::walking;
 use crate::writing;
 use answers::Held;
 use card::Admitted;
@@ -160,7 +160,8 @@ pub fn answer(tag: u8, card: &[u8]) -> bool {
         b'L' => lists(card),
         b'W' => writing::of_lists(),
         b'R' => writing::again(card),
-        b'S' => walking::of_lists(),
+        b'S' => building::of_spans(),
+        b'P' => building::of_pairs(),
         _ => numbered(tag, card),
     }
 }

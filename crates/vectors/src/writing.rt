@@ -6,6 +6,8 @@ ghost use Rattle.vectors.specs.Lists.{slots};
 use crate::fields;
 use crate::fields::Field;
 use crate::fields::SLOTS;
+use crate::fields::Sized;
+use crate::fields::Sizes;
 use crate::hashes;
 use crate::lines::Line;
 use card::Admitted;
@@ -51,13 +53,7 @@ fn read_and_write(
 ) -> bool
     requires { ⌜ (length (now words) ≤ slots) × (length (now ones) ≤ slots) × (length (now twos) ≤ slots) ⌝ }
 {
-    if !fields::words(words) {
-        return false;
-    }
-    if !fields::places(ones) {
-        return false;
-    }
-    if !fields::places(twos) {
+    if !fields::lists(words, ones, twos) {
         return false;
     }
     write(kind, l, words, ones, twos, out);
@@ -66,7 +62,11 @@ fn read_and_write(
 
 // Reads lists of a, b and c slots, writes a card of them into an output of `room` bytes, and answers whether there can be such lists and
 // such an output, and the input has the lists.
-fn write_sized(kind: usize, l: usize, a: usize, b: usize, c: usize, room: usize) -> bool {
+fn write_sized(kind: usize, s: Sizes) -> bool {
+    let a = s.a;
+    let b = s.b;
+    let c = s.c;
+    let room = s.room;
     if SLOTS < a {
         return false;
     }
@@ -85,7 +85,7 @@ fn write_sized(kind: usize, l: usize, a: usize, b: usize, c: usize, room: usize)
     let mut out = [OLD_BYTE; ROOM];
     read_and_write(
         kind,
-        l,
+        s.l,
         &mut words[..a],
         &mut ones[..b],
         &mut twos[..c],
@@ -98,22 +98,10 @@ pub fn of_lists() -> bool {
     let Field::Is(kind) = fields::eight() else {
         return false;
     };
-    let Field::Is(l) = fields::eight() else {
+    let Sized::Are(s) = fields::next_sizes() else {
         return false;
     };
-    let Field::Is(a) = fields::two() else {
-        return false;
-    };
-    let Field::Is(b) = fields::two() else {
-        return false;
-    };
-    let Field::Is(c) = fields::two() else {
-        return false;
-    };
-    let Field::Is(room) = fields::two() else {
-        return false;
-    };
-    write_sized(kind, l, a, b, c, room)
+    write_sized(kind, s)
 }
 
 // Writes a card of this format of the first m slots of each list.

@@ -1,18 +1,19 @@
-// The record that walks over span lists of its own, and the line that it prints.
+// The records that build from lists of their own, by the walk over span lists or from pair lists, and the line that each prints.
 ghost use Prim.Native.Nat.{_+_, _*_, _≤_};
 ghost use lib.ListN.{length};
 ghost use Rattle.vectors.specs.Line.{digits};
 ghost use Rattle.vectors.specs.Lists.{slots};
 use crate::fields;
-use crate::fields::Field;
 use crate::fields::OLD_WORD;
 use crate::fields::SLOTS;
+use crate::fields::Sized;
+use crate::fields::Sizes;
 use crate::hashes;
 use crate::lines::Line;
 use builds::WalkAnswer;
 use walk::Walked;
 
-// What a walk comes to: its verdict and its placements.
+// What the method comes to: its verdict and its placements.
 fn walked(w: Walked) -> Line
     ensures { λ l. ⌜ l .n ≤ 9 + (1 + digits) ⌝ }
 {
@@ -24,7 +25,7 @@ fn walked(w: Walked) -> Line
     }
 }
 
-// What walking lists answers: what the walk comes to, or the refusal.
+// What building answers: what the method comes to, or the refusal.
 fn answered(a: WalkAnswer) -> Line
     ensures { λ l. ⌜ l .n ≤ 9 + 2 * (1 + digits) ⌝ }
 {
@@ -34,14 +35,25 @@ fn answered(a: WalkAnswer) -> Line
     }
 }
 
-// Walks the lists, and prints the answer and what the output holds afterwards.
-fn walk(l: usize, words: &[u32], ones: &[u16], twos: &[u16], budget: u32, out: &mut [u32]) {
-    let line = answered(builds::walk_lists(l, words, ones, twos, budget, out));
-    line.number(hashes::of_words(out)).print()
+// Builds from the lists of a card of this kind; the budget is a walk's.
+fn build(
+    kind: usize,
+    l: usize,
+    words: &[u32],
+    ones: &[u16],
+    twos: &[u16],
+    budget: u32,
+    out: &mut [u32],
+) -> WalkAnswer {
+    if kind == entries::SPAN {
+        return builds::walk_lists(l, words, ones, twos, budget, out);
+    }
+    builds::pair_lists(l, words, ones, twos, out)
 }
 
-// Reads the lists, walks them, and answers whether the input has them.
-fn read_and_walk(
+// Reads the lists, builds from them, prints the answer and what the output holds afterwards, and answers whether the input has the lists.
+fn read_and_build(
+    kind: usize,
     l: usize,
     words: &mut [u32],
     ones: &mut [u16],
@@ -51,22 +63,21 @@ fn read_and_walk(
 ) -> bool
     requires { ⌜ (length (now words) ≤ slots) × (length (now ones) ≤ slots) × (length (now twos) ≤ slots) ⌝ }
 {
-    if !fields::words(words) {
+    if !fields::lists(words, ones, twos) {
         return false;
     }
-    if !fields::places(ones) {
-        return false;
-    }
-    if !fields::places(twos) {
-        return false;
-    }
-    walk(l, words, ones, twos, budget, out);
+    let line = answered(build(kind, l, words, ones, twos, budget, out));
+    line.number(hashes::of_words(out)).print();
     true
 }
 
-// Reads lists of a, b and c slots, walks them with an output of `room` words, and answers whether there can be such lists and such an
+// Reads lists of a, b and c slots, builds from them with an output of `room` words, and answers whether there can be such lists and such an
 // output, and the input has the lists.
-fn walk_sized(l: usize, a: usize, b: usize, c: usize, room: usize, budget: u32) -> bool {
+fn build_sized(kind: usize, s: Sizes, budget: u32) -> bool {
+    let a = s.a;
+    let b = s.b;
+    let c = s.c;
+    let room = s.room;
     if SLOTS < a {
         return false;
     }
@@ -83,8 +94,9 @@ fn walk_sized(l: usize, a: usize, b: usize, c: usize, room: usize, budget: u32) 
     let mut ones = [0u16; SLOTS];
     let mut twos = [0u16; SLOTS];
     let mut out = [OLD_WORD; SLOTS];
-    read_and_walk(
-        l,
+    read_and_build(
+        kind,
+        s.l,
         &mut words[..a],
         &mut ones[..b],
         &mut twos[..c],
@@ -93,26 +105,22 @@ fn walk_sized(l: usize, a: usize, b: usize, c: usize, room: usize, budget: u32) 
     )
 }
 
-// Reads the letters of a word, the lengths of the lists and of the output, the budget and the lists, and walks them.
-pub fn of_lists() -> bool {
-    let Field::Is(l) = fields::eight() else {
-        return false;
-    };
-    let Field::Is(a) = fields::two() else {
-        return false;
-    };
-    let Field::Is(b) = fields::two() else {
-        return false;
-    };
-    let Field::Is(c) = fields::two() else {
-        return false;
-    };
-    let Field::Is(room) = fields::two() else {
+// Reads the sizes, the budget and span lists, and walks them.
+pub fn of_spans() -> bool {
+    let Sized::Are(s) = fields::next_sizes() else {
         return false;
     };
     let mut budget = [0u32; 1];
     if !fields::words(&mut budget) {
         return false;
     }
-    walk_sized(l, a, b, c, room, budget[0])
+    build_sized(entries::SPAN, s, budget[0])
+}
+
+// Reads the sizes and pair lists, and builds from them.
+pub fn of_pairs() -> bool {
+    let Sized::Are(s) = fields::next_sizes() else {
+        return false;
+    };
+    build_sized(entries::PAIR, s, 0)
 }
