@@ -58,7 +58,7 @@ fn also(word: &[u32], put: &[usize], e: usize, t: usize, s: Words) -> Words
 fn words_at(
     at: &[usize],
     word: &[u32],
-    cut: u32,
+    mask: u32,
     last: &[usize],
     prev: &[usize],
     put: &[usize],
@@ -67,10 +67,10 @@ fn words_at(
     requires { ⌜
         (t < length (now word))
         × (length (now put) ≡ length (now word))
-        × Card (now at) (now word) cut
+        × Card (now at) (now word) mask
         × Links (now at) (now word) (now last) (now prev)
         ⌝ }
-    ensures { λ r. ⌜ Common (pairsOf (now (at .entry)) (now (word .entry)) cut) (of (now (put .entry))) t 0 (r .least) (r .many) ⌝ }
+    ensures { λ r. ⌜ Common (pairsOf (now (at .entry)) (now (word .entry)) mask) (of (now (put .entry))) t 0 (r .least) (r .many) ⌝ }
 {
     let mut s = Words { least: 0, many: 0 };
     let mut k = last[t];
@@ -86,7 +86,7 @@ fn words_at(
 fn works(
     at: &[usize],
     word: &[u32],
-    cut: u32,
+    mask: u32,
     last: &[usize],
     prev: &[usize],
     put: &mut [usize],
@@ -95,11 +95,11 @@ fn works(
     e: usize,
     t: usize,
 ) -> bool
-    requires { ⌜ Ready (now at) (now word) cut (now last) (now prev) (now put) (now trail) n ⌝ }
-    requires { ⌜ Closed (pairsOf (now at) (now word) cut) (of (now put)) ⌝ }
-    requires { ⌜ (e < length (now word)) × (t < length (now word)) × Stands (pairsOf (now at) (now word) cut) e t ⌝ }
+    requires { ⌜ Ready (now at) (now word) mask (now last) (now prev) (now put) (now trail) n ⌝ }
+    requires { ⌜ Closed (pairsOf (now at) (now word) mask) (of (now put)) ⌝ }
+    requires { ⌜ (e < length (now word)) × (t < length (now word)) × Stands (pairsOf (now at) (now word) mask) e t ⌝ }
     ensures { λ r. ⌜
-        Attempt (pairsOf (now (at .entry)) (now (word .entry)) cut) (now (put .entry)) (now (trail .entry)) n e t (now (put .exit))
+        Attempt (pairsOf (now (at .entry)) (now (word .entry)) mask) (now (put .entry)) (now (trail .entry)) n e t (now (put .exit))
         (now (trail .exit)) r
         ⌝ }
 {
@@ -110,14 +110,14 @@ fn works(
     if p < word.len() {
         return false;
     }
-    following::attempt(at, word, cut, last, prev, put, trail, n, e, t)
+    following::attempt(at, word, mask, last, prev, put, trail, n, e, t)
 }
 
 // The words s, with that of entry e if it can stand at t, found by trying.
 fn tried(
     at: &[usize],
     word: &[u32],
-    cut: u32,
+    mask: u32,
     last: &[usize],
     prev: &[usize],
     put: &mut [usize],
@@ -127,15 +127,15 @@ fn tried(
     t: usize,
     s: Words,
 ) -> Words
-    requires { ⌜ Ready (now at) (now word) cut (now last) (now prev) (now put) (now trail) n ⌝ }
-    requires { ⌜ Closed (pairsOf (now at) (now word) cut) (of (now put)) ⌝ }
-    requires { ⌜ (e < length (now word)) × (t < length (now word)) × Stands (pairsOf (now at) (now word) cut) e t ⌝ }
+    requires { ⌜ Ready (now at) (now word) mask (now last) (now prev) (now put) (now trail) n ⌝ }
+    requires { ⌜ Closed (pairsOf (now at) (now word) mask) (of (now put)) ⌝ }
+    requires { ⌜ (e < length (now word)) × (t < length (now word)) × Stands (pairsOf (now at) (now word) mask) e t ⌝ }
     ensures { λ r. ⌜
-        Tries (pairsOf (now (at .entry)) (now (word .entry)) cut) (now (put .entry)) n e t (s .least) (s .many) (now (put .exit))
+        Tries (pairsOf (now (at .entry)) (now (word .entry)) mask) (now (put .entry)) n e t (s .least) (s .many) (now (put .exit))
         (now (trail .exit)) (r .least) (r .many)
         ⌝ }
 {
-    if works(at, word, cut, last, prev, put, trail, n, e, t) {
+    if works(at, word, mask, last, prev, put, trail, n, e, t) {
         return with_word(s, word[e]);
     }
     s
@@ -145,7 +145,7 @@ fn tried(
 fn weigh(
     at: &[usize],
     word: &[u32],
-    cut: u32,
+    mask: u32,
     last: &[usize],
     prev: &[usize],
     put: &mut [usize],
@@ -153,20 +153,20 @@ fn weigh(
     n: usize,
     t: usize,
 ) -> Words
-    requires { ⌜ Ready (now at) (now word) cut (now last) (now prev) (now put) (now trail) n ⌝ }
-    requires { ⌜ Closed (pairsOf (now at) (now word) cut) (of (now put)) ⌝ }
+    requires { ⌜ Ready (now at) (now word) mask (now last) (now prev) (now put) (now trail) n ⌝ }
+    requires { ⌜ Closed (pairsOf (now at) (now word) mask) (of (now put)) ⌝ }
     requires { ⌜ t < length (now word) ⌝ }
     ensures { λ r. ⌜
         (now (put .exit) ≡ now (put .entry))
         × Trail (length (now (word .entry))) (now (put .entry)) (now (trail .exit)) n
-        × Weighed (pairsOf (now (at .entry)) (now (word .entry)) cut) (of (now (put .entry))) t 0 (r .least) (r .many)
+        × Weighed (pairsOf (now (at .entry)) (now (word .entry)) mask) (of (now (put .entry))) t 0 (r .least) (r .many)
         ⌝ }
 {
     let mut s = Words { least: 0, many: 0 };
     let mut k = last[t];
     while k > 0 {
         let x = k - 1;
-        s = tried(at, word, cut, last, prev, put, trail, n, x / 2, t, s);
+        s = tried(at, word, mask, last, prev, put, trail, n, x / 2, t, s);
         k = prev[x];
     }
     s
@@ -176,7 +176,7 @@ fn weigh(
 fn send_off(
     at: &[usize],
     word: &[u32],
-    cut: u32,
+    mask: u32,
     last: &[usize],
     prev: &[usize],
     put: &mut [usize],
@@ -186,11 +186,11 @@ fn send_off(
     w: u32,
     e: usize,
 ) -> Step
-    requires { ⌜ Ready (now at) (now word) cut (now last) (now prev) (now put) (now trail) n ⌝ }
-    requires { ⌜ Closed (pairsOf (now at) (now word) cut) (of (now put)) ⌝ }
-    requires { ⌜ (e < length (now word)) × (t < length (now word)) × Stands (pairsOf (now at) (now word) cut) e t ⌝ }
+    requires { ⌜ Ready (now at) (now word) mask (now last) (now prev) (now put) (now trail) n ⌝ }
+    requires { ⌜ Closed (pairsOf (now at) (now word) mask) (of (now put)) ⌝ }
+    requires { ⌜ (e < length (now word)) × (t < length (now word)) × Stands (pairsOf (now at) (now word) mask) e t ⌝ }
     ensures { λ r. ⌜
-        Drops (pairsOf (now (at .entry)) (now (word .entry)) cut) (now (put .entry)) t w e (now (put .exit)) (now (trail .exit)) (r .n)
+        Drops (pairsOf (now (at .entry)) (now (word .entry)) mask) (now (put .entry)) t w e (now (put .exit)) (now (trail .exit)) (r .n)
         (r .ok)
         ⌝ }
 {
@@ -208,14 +208,14 @@ fn send_off(
     if q == t {
         return Step { n, ok: false };
     }
-    following::follow(at, word, cut, last, prev, put, trail, n, e, q)
+    following::follow(at, word, mask, last, prev, put, trail, n, e, q)
 }
 
 // Leaves only entries of the word w at t.
 fn keep_word(
     at: &[usize],
     word: &[u32],
-    cut: u32,
+    mask: u32,
     last: &[usize],
     prev: &[usize],
     put: &mut [usize],
@@ -224,11 +224,11 @@ fn keep_word(
     t: usize,
     w: u32,
 ) -> Step
-    requires { ⌜ Ready (now at) (now word) cut (now last) (now prev) (now put) (now trail) n ⌝ }
-    requires { ⌜ Closed (pairsOf (now at) (now word) cut) (of (now put)) ⌝ }
+    requires { ⌜ Ready (now at) (now word) mask (now last) (now prev) (now put) (now trail) n ⌝ }
+    requires { ⌜ Closed (pairsOf (now at) (now word) mask) (of (now put)) ⌝ }
     requires { ⌜ t < length (now word) ⌝ }
     ensures { λ r. ⌜
-        DropsAll (pairsOf (now (at .entry)) (now (word .entry)) cut) (now (put .entry)) t w (now (put .exit)) (now (trail .exit)) (r .n)
+        DropsAll (pairsOf (now (at .entry)) (now (word .entry)) mask) (now (put .entry)) t w (now (put .exit)) (now (trail .exit)) (r .n)
         (r .ok)
         ⌝ }
 {
@@ -236,7 +236,7 @@ fn keep_word(
     let mut k = last[t];
     while k > 0 {
         let x = k - 1;
-        let g = send_off(at, word, cut, last, prev, put, trail, far, t, w, x / 2);
+        let g = send_off(at, word, mask, last, prev, put, trail, far, t, w, x / 2);
         if g.ok {
             far = g.n;
             k = prev[x];
@@ -259,7 +259,7 @@ pub struct Choice {
 fn choose(
     at: &[usize],
     word: &[u32],
-    cut: u32,
+    mask: u32,
     last: &[usize],
     prev: &[usize],
     put: &mut [usize],
@@ -267,15 +267,15 @@ fn choose(
     n: usize,
     t: usize,
 ) -> Choice
-    requires { ⌜ Ready (now at) (now word) cut (now last) (now prev) (now put) (now trail) n ⌝ }
-    requires { ⌜ Closed (pairsOf (now at) (now word) cut) (of (now put)) ⌝ }
+    requires { ⌜ Ready (now at) (now word) mask (now last) (now prev) (now put) (now trail) n ⌝ }
+    requires { ⌜ Closed (pairsOf (now at) (now word) mask) (of (now put)) ⌝ }
     requires { ⌜ t < length (now word) ⌝ }
     ensures { λ r. ⌜
-        Chooses (pairsOf (now (at .entry)) (now (word .entry)) cut) (now (put .entry)) t (r .word) (r .more) (now (put .exit))
+        Chooses (pairsOf (now (at .entry)) (now (word .entry)) mask) (now (put .entry)) t (r .word) (r .more) (now (put .exit))
         (now (trail .exit)) (r .n) (r .ok)
         ⌝ }
 {
-    let a = words_at(at, word, cut, last, prev, put, t);
+    let a = words_at(at, word, mask, last, prev, put, t);
     if a.many == 0 {
         return Choice {
             n,
@@ -292,7 +292,7 @@ fn choose(
             more: 0,
         };
     }
-    let b = weigh(at, word, cut, last, prev, put, trail, n, t);
+    let b = weigh(at, word, mask, last, prev, put, trail, n, t);
     if b.many == 0 {
         return Choice {
             n,
@@ -301,7 +301,7 @@ fn choose(
             more: 0,
         };
     }
-    let g = keep_word(at, word, cut, last, prev, put, trail, n, t, b.least);
+    let g = keep_word(at, word, mask, last, prev, put, trail, n, t, b.least);
     Choice {
         n: g.n,
         ok: g.ok,
@@ -321,7 +321,7 @@ pub struct Tally {
 pub fn choose_all(
     at: &[usize],
     word: &[u32],
-    cut: u32,
+    mask: u32,
     last: &[usize],
     prev: &[usize],
     put: &mut [usize],
@@ -329,12 +329,12 @@ pub fn choose_all(
     n: usize,
     words: &mut [u32],
 ) -> Tally
-    requires { ⌜ Ready (now at) (now word) cut (now last) (now prev) (now put) (now trail) n ⌝ }
-    requires { ⌜ Closed (pairsOf (now at) (now word) cut) (of (now put)) ⌝ }
+    requires { ⌜ Ready (now at) (now word) mask (now last) (now prev) (now put) (now trail) n ⌝ }
+    requires { ⌜ Closed (pairsOf (now at) (now word) mask) (of (now put)) ⌝ }
     requires { ⌜ length (now words) ≡ length (now word) ⌝ }
-    requires { ⌜ Upto (pairsOf (now at) (now word) cut) (of (now put)) 0 (of (now words)) 0 ⌝ }
+    requires { ⌜ Upto (pairsOf (now at) (now word) mask) (of (now put)) 0 (of (now words)) 0 ⌝ }
     ensures { λ r. ⌜
-        ChoosesAll (pairsOf (now (at .entry)) (now (word .entry)) cut) (now (put .exit)) (now (trail .exit)) (r .n) (r .ok) (r .choices)
+        ChoosesAll (pairsOf (now (at .entry)) (now (word .entry)) mask) (now (put .exit)) (now (trail .exit)) (r .n) (r .ok) (r .choices)
         (now (words .exit))
         ⌝ }
 {
@@ -342,7 +342,7 @@ pub fn choose_all(
     let mut choices: usize = 0;
     let mut t = 0;
     while t < word.len() {
-        let g = choose(at, word, cut, last, prev, put, trail, far, t);
+        let g = choose(at, word, mask, last, prev, put, trail, far, t);
         if g.ok {
             far = g.n;
             choices += g.more;

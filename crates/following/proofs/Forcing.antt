@@ -181,25 +181,25 @@ seen-next c {x} h g1 g2 f (inr (y, z)) =
 
 -- ---- the card's places
 
-module _ {at word : List ℕ} {cut f : ℕ} (k : Card at word cut) (fp : f < length word) where
+module _ {at word : List ℕ} {mask f : ℕ} (k : Card at word mask) (fp : f < length word) where
   pub one-inside : of at (2 * f) < length word
   one-inside = k .inside (2 * f) (omega (arith, k .slots))
 
   pub two-inside : of at (2 * f + 1) < length word
   two-inside = k .inside (2 * f + 1) (omega (arith, k .slots))
 
-  pub other-inside : {q : ℕ} → Stands (pairsOf at word cut) f q → otherThan (pairsOf at word cut) f q < length word
+  pub other-inside : {q : ℕ} → Stands (pairsOf at word mask) f q → otherThan (pairsOf at word mask) f q < length word
   other-inside (inl x) = omega (arith, one-inside, two-inside)
   other-inside (inr x) = omega (arith, one-inside, two-inside)
 
   -- what `other` asks
-  pub other-asks : {q : ℕ} → Stands (pairsOf at word cut) f q
+  pub other-asks : {q : ℕ} → Stands (pairsOf at word mask) f q
       → (2 * f + 1 < length at) × (of at (2 * f) < length at) × (of at (2 * f + 1) < length at) × (q ≤ of at (2 * f) + of at (2 * f + 1))
   other-asks {q} st =
       let low : q ≤ of at (2 * f) + of at (2 * f + 1) = ⊎-elim (λ x. omega arith) (λ x. omega arith) st in
       (omega (arith, k .slots), omega (arith, k .slots, one-inside), omega (arith, k .slots, two-inside), low)
 
-pub inside-of : {at word : List ℕ} {cut : ℕ} → Card at word cut → Inside (pairsOf at word cut)
+pub inside-of : {at word : List ℕ} {mask : ℕ} → Card at word mask → Inside (pairsOf at word mask)
 inside-of k = record { ones = λ e p. one-inside k p; twos = λ e p. two-inside k p }
 
 -- ---- the lists
@@ -333,20 +333,20 @@ went-none h a = record { shape = a .shape; traced = a .traced; good = λ x. absu
 pub slot-of : {x : ℕ} → (x ≡ 2 * (x / 2)) ⊎ (x ≡ 2 * (x / 2) + 1)
 slot-of {x} = by-cases (ℕ-discrete x (2 * (x / 2))) inl (λ d. inr (omega (arith, d)))
 
-pub record Clearing (at word : List ℕ) (cut : ℕ) (put₀ trail₀ : List ℕ) (n₀ : ℕ) (put trail : List ℕ) (n e q k : ℕ) : Type 0 where
+pub record Clearing (at word : List ℕ) (mask : ℕ) (put₀ trail₀ : List ℕ) (n₀ : ℕ) (put trail : List ℕ) (n e q k : ℕ) : Type 0 where
   pub low : k ≤ length at
   pub here : 0 < k → of at (k - 1) ≡ q
-  pub went : Went (pairsOf at word cut) put₀ trail₀ n₀ put trail n true (RidFrom (pairsOf at word cut) (of put) e q k)
+  pub went : Went (pairsOf at word mask) put₀ trail₀ n₀ put trail n true (RidFrom (pairsOf at word mask) (of put) e q k)
 
-module _ {at word : List ℕ} {cut : ℕ} {last prev : List ℕ} (k : Card at word cut) (l : Links at word last prev) {q : ℕ}
+module _ {at word : List ℕ} {mask : ℕ} {last prev : List ℕ} (k : Card at word mask) (l : Links at word last prev) {q : ℕ}
     (qp : q < length word) where
   -- before the last slot of the list there is none
-  none-yet : {f : ℕ} → f < length word → Seen (pairsOf at word cut) q (of last q) f → ⊥
+  none-yet : {f : ℕ} → f < length word → Seen (pairsOf at word mask) q (of last q) f → ⊥
   none-yet {f} fp (inl (x, y)) = l .top q (rw (l .lasts) qp) .1 (2 * f) y (omega (arith, k .slots)) (sym x)
   none-yet {f} fp (inr (x, y)) = l .top q (rw (l .lasts) qp) .1 (2 * f + 1) y (omega (arith, k .slots)) (sym x)
 
   pub clear-start : {put trail : List ℕ} {n e : ℕ} → Trail (length word) put trail n
-      → Clearing at word cut put trail n put trail n e q (of last q)
+      → Clearing at word mask put trail n put trail n e q (of last q)
   clear-start {put} {trail} {n} t =
       record {
         low = l .top q (rw (l .lasts) qp) .0;
@@ -354,7 +354,7 @@ module _ {at word : List ℕ} {cut : ℕ} {last prev : List ℕ} (k : Card at wo
         went = went-still t (λ f fp d z. absurd (none-yet fp z));
       }
 
-  module _ {put₀ trail₀ put trail : List ℕ} {n₀ n e b : ℕ} (r : Clearing at word cut put₀ trail₀ n₀ put trail n e q b) (more : 0 < b) where
+  module _ {put₀ trail₀ put trail : List ℕ} {n₀ n e b : ℕ} (r : Clearing at word mask put₀ trail₀ n₀ put trail n e q b) (more : 0 < b) where
     -- the slot is one of the card's
     slot-low : b - 1 < length at
     slot-low = omega (arith, r .low)
@@ -362,24 +362,24 @@ module _ {at word : List ℕ} {cut : ℕ} {last prev : List ℕ} (k : Card at wo
     pub entry-low : (b - 1) / 2 < length word
     entry-low = omega (arith, r .low, k .slots)
 
-    pub entry-stands : Stands (pairsOf at word cut) ((b - 1) / 2) q
+    pub entry-stands : Stands (pairsOf at word mask) ((b - 1) / 2) q
     entry-stands = ⊎-elim (λ x. inl (sym (r .here more) ∙ ap (of at) x)) (λ x. inr (sym (r .here more) ∙ ap (of at) x)) (slot-of)
 
     gap : (y : ℕ) → of prev (b - 1) ≤ y → y < b - 1 → of at y ≢ q
     gap y p z x = l .next (b - 1) slot-low .1 y p z (x ∙ sym (r .here more))
 
-    next : {f : ℕ} → Seen (pairsOf at word cut) q (of prev (b - 1)) f → (f ≡ (b - 1) / 2) ⊎ Seen (pairsOf at word cut) q b f
+    next : {f : ℕ} → Seen (pairsOf at word mask) q (of prev (b - 1)) f → (f ≡ (b - 1) / 2) ⊎ Seen (pairsOf at word mask) q b f
     next {f} z =
         ⊎-elim inl (λ y. inr (rw back at y))
-        (seen-next (pairsOf at word cut) (slot-of) (λ g. gap (2 * g)) (λ g. gap (2 * g + 1)) f z)
+        (seen-next (pairsOf at word mask) (slot-of) (λ g. gap (2 * g)) (λ g. gap (2 * g + 1)) f z)
       where
         back : (b - 1) + 1 ≡ b
         back = omega arith
 
     pub clear-more : {put′ trail′ : List ℕ} {n′ : ℕ} → e < length word → of put e < length word
-        → Went (pairsOf at word cut) put trail n put′ trail′ n′ true
-        (e ≢ (b - 1) / 2 → Free (pairsOf at word cut) (of put′) e ((b - 1) / 2) q)
-        → Clearing at word cut put₀ trail₀ n₀ put′ trail′ n′ e q (of prev (b - 1))
+        → Went (pairsOf at word mask) put trail n put′ trail′ n′ true
+        (e ≢ (b - 1) / 2 → Free (pairsOf at word mask) (of put′) e ((b - 1) / 2) q)
+        → Clearing at word mask put₀ trail₀ n₀ put′ trail′ n′ e q (of prev (b - 1))
     clear-more {put′} {trail′} {n′} ep placed w =
         record {
           low = omega (arith, l .next (b - 1) slot-low .0, r .low);
@@ -387,26 +387,26 @@ module _ {at word : List ℕ} {cut : ℕ} {last prev : List ℕ} (k : Card at wo
           went = went-then (r .went) w both;
         }
       where
-        both : RidFrom (pairsOf at word cut) (of put) e q b → Agrees (pairsOf at word cut) (of put) (of put′)
-            → (e ≢ (b - 1) / 2 → Free (pairsOf at word cut) (of put′) e ((b - 1) / 2) q)
-            → RidFrom (pairsOf at word cut) (of put′) e q (of prev (b - 1))
+        both : RidFrom (pairsOf at word mask) (of put) e q b → Agrees (pairsOf at word mask) (of put) (of put′)
+            → (e ≢ (b - 1) / 2 → Free (pairsOf at word mask) (of put′) e ((b - 1) / 2) q)
+            → RidFrom (pairsOf at word mask) (of put′) e q (of prev (b - 1))
         both old g new f fp d z =
             ⊎-elim (λ x. rw x (new (rw x at d))) (λ x. free-more g ep placed fp (old f fp d x)) (next z)
 
-pub clear-end : {at word : List ℕ} {cut : ℕ} {put₀ trail₀ put trail : List ℕ} {n₀ n e q b : ℕ} → b ≤ 0
-    → Clearing at word cut put₀ trail₀ n₀ put trail n e q b
-    → Went (pairsOf at word cut) put₀ trail₀ n₀ put trail n true (RidFrom (pairsOf at word cut) (of put) e q 0)
-clear-end {at} {word} {cut} {put₀} {trail₀} {put} {trail} {n₀} {n} h r =
+pub clear-end : {at word : List ℕ} {mask : ℕ} {put₀ trail₀ put trail : List ℕ} {n₀ n e q b : ℕ} → b ≤ 0
+    → Clearing at word mask put₀ trail₀ n₀ put trail n e q b
+    → Went (pairsOf at word mask) put₀ trail₀ n₀ put trail n true (RidFrom (pairsOf at word mask) (of put) e q 0)
+clear-end {at} {word} {mask} {put₀} {trail₀} {put} {trail} {n₀} {n} h r =
     went-told
     (λ old f fp d z. old f fp d (⊎-elim (λ x. inl (x .0, omega (arith, x .1))) (λ x. inr (x .0, omega (arith, x .1))) z)) (r .went)
 
 -- ---- the three places
 
 -- no entry stands beyond the last place
-pub beyond : {at word : List ℕ} {cut : ℕ} → Card at word cut → (q b f : ℕ) → f < length word → length word ≤ q
-    → Seen (pairsOf at word cut) q b f → ⊥
-beyond {at} {word} {cut} k q b f fp h (inl (x, y)) = absurd (omega (arith, one-inside k fp))
-beyond {at} {word} {cut} k q b f fp h (inr (x, y)) = absurd (omega (arith, two-inside k fp))
+pub beyond : {at word : List ℕ} {mask : ℕ} → Card at word mask → (q b f : ℕ) → f < length word → length word ≤ q
+    → Seen (pairsOf at word mask) q b f → ⊥
+beyond {at} {word} {mask} k q b f fp h (inl (x, y)) = absurd (omega (arith, one-inside k fp))
+beyond {at} {word} {mask} k q b f fp h (inr (x, y)) = absurd (omega (arith, two-inside k fp))
 
 pub rid-from-more : {c : Pairs} {s s′ : ℕ → ℕ} {e q : ℕ} → e < c .m → s e < c .m → Agrees c s s′ → RidFrom c s e q 0 → RidFrom c s′ e q 0
 rid-from-more {c} {s} {s′} {e} {q} ep h g r f fp d z = free-more g ep h fp (r f fp d z)

@@ -15,13 +15,13 @@ pub record Listing (at : List ℕ) (q b : ℕ) : Type 0 where
   pub low : b ≤ length at
   pub here : 0 < b → of at (b - 1) ≡ q
 
-module _ {at word : List ℕ} {cut : ℕ} {last prev : List ℕ} (k : Card at word cut) (l : Links at word last prev) {q : ℕ}
+module _ {at word : List ℕ} {mask : ℕ} {last prev : List ℕ} (k : Card at word mask) (l : Links at word last prev) {q : ℕ}
     (qp : q < length word) where
   pub list-start : Listing at q (of last q)
   list-start = record { low = l .top q (rw (l .lasts) qp) .0; here = l .top q (rw (l .lasts) qp) .2 }
 
   -- before the last slot of the list there is none
-  pub list-none : (f : ℕ) → f < length word → Seen (pairsOf at word cut) q (of last q) f → ⊥
+  pub list-none : (f : ℕ) → f < length word → Seen (pairsOf at word mask) q (of last q) f → ⊥
   list-none f fp (inl (x, y)) = l .top q (rw (l .lasts) qp) .1 (2 * f) y (omega (arith, k .slots)) (sym x)
   list-none f fp (inr (x, y)) = l .top q (rw (l .lasts) qp) .1 (2 * f + 1) y (omega (arith, k .slots)) (sym x)
 
@@ -32,7 +32,7 @@ module _ {at word : List ℕ} {cut : ℕ} {last prev : List ℕ} (k : Card at wo
     pub list-entry : (b - 1) / 2 < length word
     list-entry = omega (arith, r .low, k .slots)
 
-    pub list-stands : Stands (pairsOf at word cut) ((b - 1) / 2) q
+    pub list-stands : Stands (pairsOf at word mask) ((b - 1) / 2) q
     list-stands = ⊎-elim (λ x. inl (sym (r .here more) ∙ ap (of at) x)) (λ x. inr (sym (r .here more) ∙ ap (of at) x)) (slot-of)
 
     pub list-more : Listing at q (of prev (b - 1))
@@ -48,11 +48,11 @@ module _ {at word : List ℕ} {cut : ℕ} {last prev : List ℕ} (k : Card at wo
     gap : (y : ℕ) → of prev (b - 1) ≤ y → y < b - 1 → of at y ≢ q
     gap y p z x = l .next (b - 1) slot-low .1 y p z (x ∙ sym (r .here more))
 
-    pub list-next : (f : ℕ) → f < length word → Seen (pairsOf at word cut) q (of prev (b - 1)) f
-        → (f ≡ (b - 1) / 2) ⊎ Seen (pairsOf at word cut) q b f
+    pub list-next : (f : ℕ) → f < length word → Seen (pairsOf at word mask) q (of prev (b - 1)) f
+        → (f ≡ (b - 1) / 2) ⊎ Seen (pairsOf at word mask) q b f
     list-next f fp z =
         ⊎-elim inl (λ y. inr (rw back at y))
-        (seen-next (pairsOf at word cut) (slot-of) (λ g. gap (2 * g)) (λ g. gap (2 * g + 1)) f z)
+        (seen-next (pairsOf at word mask) (slot-of) (λ g. gap (2 * g)) (λ g. gap (2 * g + 1)) f z)
       where
         back : (b - 1) + 1 ≡ b
         back = omega arith
@@ -60,23 +60,23 @@ module _ {at word : List ℕ} {cut : ℕ} {last prev : List ℕ} (k : Card at wo
 -- ---- looking for an entry that can still come to stand at a place
 
 -- the entries from slot b on cannot
-pub record NoneFrom (at word : List ℕ) (cut : ℕ) (put : List ℕ) (q b : ℕ) : Type 0 where
+pub record NoneFrom (at word : List ℕ) (mask : ℕ) (put : List ℕ) (q b : ℕ) : Type 0 where
   pub listing : Listing at q b
-  pub none : (e : ℕ) → e < length word → Seen (pairsOf at word cut) q b e → Possible (pairsOf at word cut) (of put) q e → ⊥
+  pub none : (e : ℕ) → e < length word → Seen (pairsOf at word mask) q b e → Possible (pairsOf at word mask) (of put) q e → ⊥
 
-module _ {at word : List ℕ} {cut : ℕ} {last prev put : List ℕ} (k : Card at word cut) (l : Links at word last prev) {q : ℕ}
+module _ {at word : List ℕ} {mask : ℕ} {last prev put : List ℕ} (k : Card at word mask) (l : Links at word last prev) {q : ℕ}
     (qp : q < length word) where
-  pub none-start : NoneFrom at word cut put q (of last q)
+  pub none-start : NoneFrom at word mask put q (of last q)
   none-start = record { listing = list-start k l qp; none = λ e p z. absurd (list-none k l qp e p z) }
 
-  pub none-more : {b : ℕ} → NoneFrom at word cut put q b → 0 < b → (Possible (pairsOf at word cut) (of put) q ((b - 1) / 2) → ⊥)
-      → NoneFrom at word cut put q (of prev (b - 1))
+  pub none-more : {b : ℕ} → NoneFrom at word mask put q b → 0 < b → (Possible (pairsOf at word mask) (of put) q ((b - 1) / 2) → ⊥)
+      → NoneFrom at word mask put q (of prev (b - 1))
   none-more r more x =
       record {
         listing = list-more k l qp (r .listing) more;
         none = λ e p z y. ⊎-elim (λ h. x (rw h at y)) (λ h. r .none e p h y) (list-next k l qp (r .listing) more e p z);
       }
 
-pub none-end : {at word : List ℕ} {cut : ℕ} {put : List ℕ} {q b : ℕ} → NoneFrom at word cut put q b → b ≤ 0 → (e : ℕ) → e < length word
-    → Possible (pairsOf at word cut) (of put) q e → ⊥
+pub none-end : {at word : List ℕ} {mask : ℕ} {put : List ℕ} {q b : ℕ} → NoneFrom at word mask put q b → b ≤ 0 → (e : ℕ) → e < length word
+    → Possible (pairsOf at word mask) (of put) q e → ⊥
 none-end r h e p y = r .none e p (⊎-elim (λ x. inl (x, omega arith)) (λ x. inr (x, omega arith)) (y .0)) y

@@ -10,33 +10,35 @@ use mathlib.Core.Path.{_≡_}
 use mathlib.Core.Bool.{Bool, true, false, cond}
 use mathlib.Core.List.{List, [], _∷_}
 use mathlib.Core.Logic.{_≢_, _⊎_}
-use Prim.Native.Nat.{ℕ, _+_, _*_, _-_, _/_, _%_, _<_, _≤_}
+use Prim.Native.Nat.{ℕ, _+_, _*_, _-_, _/_, _<_, _≤_, _^_}
 use lib.Dec.{ltb}
+use lib.Bits.{bitAnd}
 use lib.ListN.{length, getD}
 use Rattle.pairs.specs.Arranged.{Pairs, Stands, Goes, Arranged}
 use Rattle.pairs.specs.Chosen.{Agrees, Followed, Refuted, Seen}
 
 -- ---- the card and the places so far, as lists
 
--- slot 2 * e of `at` is the place one of entry e, and slot 2 * e + 1 its place two; cut is 4 to the l − 1
+-- slot 2 * e of `at` is the place one of entry e, and slot 2 * e + 1 its place two; mask takes the last l − 1
+-- letters of a word
 abbrev pub pairsOf : List ℕ → List ℕ → ℕ → Pairs
-pairsOf at word cut =
+pairsOf at word mask =
     record {
       m = length word;
       one = λ e. getD at (2 * e) 0;
       two = λ e. getD at (2 * e + 1) 0;
       word = λ e. getD word e 0;
       head = λ e. getD word e 0 / 4;
-      tail = λ e. getD word e 0 % cut;
+      tail = λ e. bitAnd (getD word e 0) mask;
     }
 
 abbrev pub of : List ℕ → ℕ → ℕ
 of l i = getD l i 0
 
-pub record Card (at word : List ℕ) (cut : ℕ) : Type 0 where
+pub record Card (at word : List ℕ) (mask : ℕ) : Type 0 where
   pub slots : length at ≡ 2 * length word
   pub inside : (x : ℕ) → x < length at → getD at x 0 < length word
-  pub cuts : 0 < cut
+  pub ones : (k : ℕ) × (mask + 1 ≡ 4 ^ k)
 
 -- last has the list of each place, by its last slot plus one, and prev the slot before in the list, plus one; 0 ends a list
 pub record Links (at word last prev : List ℕ) : Type 0 where
@@ -115,8 +117,8 @@ pub record Went (c : Pairs) (put trail : List ℕ) (n : ℕ) (put′ trail′ : 
 abbrev pub RidFrom : Pairs → (ℕ → ℕ) → ℕ → ℕ → ℕ → Type 0
 RidFrom c s e q b = (f : ℕ) → f < c .m → e ≢ f → Seen c q b f → Free c s e f q
 
-pub record Ready (at word : List ℕ) (cut : ℕ) (last prev put trail : List ℕ) (n : ℕ) : Type 0 where
-  pub card : Card at word cut
+pub record Ready (at word : List ℕ) (mask : ℕ) (last prev put trail : List ℕ) (n : ℕ) : Type 0 where
+  pub card : Card at word mask
   pub links : Links at word last prev
   pub shape : Trail (length word) put trail n
 

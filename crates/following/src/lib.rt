@@ -45,9 +45,9 @@ pub fn other(at: &[usize], f: usize, q: usize) -> usize
 }
 
 // Whether the entries e at p and f at q do not exclude each other.
-fn goes(word: &[u32], cut: u32, e: usize, p: usize, f: usize, q: usize) -> bool
-    requires { ⌜ (e < length (now word)) × (f < length (now word)) × (p < length (now word)) × (q < length (now word)) × (0 < cut) ⌝ }
-    ensures { λ r. ⌜ ((at : List ℕ) → Tells (Goes (pairsOf at (now (word .entry)) cut) e p f q) r) ⌝ }
+fn goes(word: &[u32], mask: u32, e: usize, p: usize, f: usize, q: usize) -> bool
+    requires { ⌜ (e < length (now word)) × (f < length (now word)) × (p < length (now word)) × (q < length (now word)) ⌝ }
+    ensures { λ r. ⌜ ((at : List ℕ) → Tells (Goes (pairsOf at (now (word .entry)) mask) e p f q) r) ⌝ }
 {
     let mine = word[e];
     let other = word[f];
@@ -55,10 +55,10 @@ fn goes(word: &[u32], cut: u32, e: usize, p: usize, f: usize, q: usize) -> bool
         return false;
     }
     if q == p + 1 {
-        return mine % cut == other / 4;
+        return mine & mask == other / 4;
     }
     if p == q + 1 {
-        return other % cut == mine / 4;
+        return other & mask == mine / 4;
     }
     true
 }
@@ -67,7 +67,7 @@ fn goes(word: &[u32], cut: u32, e: usize, p: usize, f: usize, q: usize) -> bool
 fn exclude(
     at: &[usize],
     word: &[u32],
-    cut: u32,
+    mask: u32,
     put: &mut [usize],
     trail: &mut [usize],
     n: usize,
@@ -75,24 +75,24 @@ fn exclude(
     f: usize,
     q: usize,
 ) -> Step
-    requires { ⌜ Card (now at) (now word) cut ⌝ }
+    requires { ⌜ Card (now at) (now word) mask ⌝ }
     requires { ⌜ Trail (length (now word)) (now put) (now trail) n ⌝ }
     requires { ⌜
         (e < length (now word))
         × (f < length (now word))
         × (q < length (now word))
         × (of (now put) e < length (now word))
-        × Stands (pairsOf (now at) (now word) cut) f q
+        × Stands (pairsOf (now at) (now word) mask) f q
         ⌝ }
     ensures { λ r. ⌜
-        Went (pairsOf (now (at .entry)) (now (word .entry)) cut) (now (put .entry)) (now (trail .entry)) n (now (put .exit))
-        (now (trail .exit)) (r .n) (r .ok) (e ≢ f → Free (pairsOf (now (at .entry)) (now (word .entry)) cut) (of (now (put .exit))) e f q)
+        Went (pairsOf (now (at .entry)) (now (word .entry)) mask) (now (put .entry)) (now (trail .entry)) n (now (put .exit))
+        (now (trail .exit)) (r .n) (r .ok) (e ≢ f → Free (pairsOf (now (at .entry)) (now (word .entry)) mask) (of (now (put .exit))) e f q)
         ⌝ }
 {
     if e == f {
         return Step { n, ok: true };
     }
-    if goes(word, cut, e, put[e], f, q) {
+    if goes(word, mask, e, put[e], f, q) {
         return Step { n, ok: true };
     }
     let was = put[f];
@@ -115,7 +115,7 @@ fn exclude(
 fn clear(
     at: &[usize],
     word: &[u32],
-    cut: u32,
+    mask: u32,
     last: &[usize],
     prev: &[usize],
     put: &mut [usize],
@@ -124,18 +124,18 @@ fn clear(
     e: usize,
     q: usize,
 ) -> Step
-    requires { ⌜ Ready (now at) (now word) cut (now last) (now prev) (now put) (now trail) n ⌝ }
+    requires { ⌜ Ready (now at) (now word) mask (now last) (now prev) (now put) (now trail) n ⌝ }
     requires { ⌜ (e < length (now word)) × (q < length (now word)) × (of (now put) e < length (now word)) ⌝ }
     ensures { λ r. ⌜
-        Went (pairsOf (now (at .entry)) (now (word .entry)) cut) (now (put .entry)) (now (trail .entry)) n (now (put .exit))
-        (now (trail .exit)) (r .n) (r .ok) (RidFrom (pairsOf (now (at .entry)) (now (word .entry)) cut) (of (now (put .exit))) e q 0)
+        Went (pairsOf (now (at .entry)) (now (word .entry)) mask) (now (put .entry)) (now (trail .entry)) n (now (put .exit))
+        (now (trail .exit)) (r .n) (r .ok) (RidFrom (pairsOf (now (at .entry)) (now (word .entry)) mask) (of (now (put .exit))) e q 0)
         ⌝ }
 {
     let mut k = last[q];
     let mut far = n;
     while k > 0 {
         let x = k - 1;
-        let g = exclude(at, word, cut, put, trail, far, e, x / 2, q);
+        let g = exclude(at, word, mask, put, trail, far, e, x / 2, q);
         if g.ok {
             far = g.n;
             k = prev[x];
@@ -150,7 +150,7 @@ fn clear(
 fn can_be_filled(
     at: &[usize],
     word: &[u32],
-    cut: u32,
+    mask: u32,
     last: &[usize],
     prev: &[usize],
     put: &[usize],
@@ -159,12 +159,12 @@ fn can_be_filled(
     requires { ⌜
         (q < length (now word))
         × (length (now put) ≡ length (now word))
-        × Card (now at) (now word) cut
+        × Card (now at) (now word) mask
         × Links (now at) (now word) (now last) (now prev)
         ⌝ }
     ensures { λ r. ⌜
         (r ≡ false → (e : ℕ) → e < length (now (word .entry))
-        → Possible (pairsOf (now (at .entry)) (now (word .entry)) cut) (of (now (put .entry))) q e
+        → Possible (pairsOf (now (at .entry)) (now (word .entry)) mask) (of (now (put .entry))) q e
         → ⊥)
         ⌝ }
 {
@@ -183,7 +183,7 @@ fn can_be_filled(
 fn near(
     at: &[usize],
     word: &[u32],
-    cut: u32,
+    mask: u32,
     last: &[usize],
     prev: &[usize],
     put: &mut [usize],
@@ -192,12 +192,12 @@ fn near(
     e: usize,
     after: usize,
 ) -> Step
-    requires { ⌜ Ready (now at) (now word) cut (now last) (now prev) (now put) (now trail) n ⌝ }
+    requires { ⌜ Ready (now at) (now word) mask (now last) (now prev) (now put) (now trail) n ⌝ }
     requires { ⌜ (e < length (now word)) × (of (now put) e < length (now word)) ⌝ }
     ensures { λ r. ⌜
-        Went (pairsOf (now (at .entry)) (now (word .entry)) cut) (now (put .entry)) (now (trail .entry)) n (now (put .exit))
+        Went (pairsOf (now (at .entry)) (now (word .entry)) mask) (now (put .entry)) (now (trail .entry)) n (now (put .exit))
         (now (trail .exit)) (r .n) (r .ok)
-        ((q : ℕ) → q + 1 ≡ after → RidFrom (pairsOf (now (at .entry)) (now (word .entry)) cut) (of (now (put .exit))) e q 0)
+        ((q : ℕ) → q + 1 ≡ after → RidFrom (pairsOf (now (at .entry)) (now (word .entry)) mask) (of (now (put .exit))) e q 0)
         ⌝ }
 {
     if after == 0 {
@@ -207,9 +207,9 @@ fn near(
         return Step { n, ok: true };
     }
     let q = after - 1;
-    let g = clear(at, word, cut, last, prev, put, trail, n, e, q);
+    let g = clear(at, word, mask, last, prev, put, trail, n, e, q);
     if g.ok {
-        if can_be_filled(at, word, cut, last, prev, put, q) {
+        if can_be_filled(at, word, mask, last, prev, put, q) {
             return g;
         }
         return Step { n: g.n, ok: false };
@@ -221,7 +221,7 @@ fn near(
 fn rid(
     at: &[usize],
     word: &[u32],
-    cut: u32,
+    mask: u32,
     last: &[usize],
     prev: &[usize],
     put: &mut [usize],
@@ -229,19 +229,19 @@ fn rid(
     n: usize,
     e: usize,
 ) -> Step
-    requires { ⌜ Ready (now at) (now word) cut (now last) (now prev) (now put) (now trail) n ⌝ }
+    requires { ⌜ Ready (now at) (now word) mask (now last) (now prev) (now put) (now trail) n ⌝ }
     requires { ⌜ (e < length (now word)) × (of (now put) e < length (now word)) ⌝ }
     ensures { λ r. ⌜
-        Went (pairsOf (now (at .entry)) (now (word .entry)) cut) (now (put .entry)) (now (trail .entry)) n (now (put .exit))
-        (now (trail .exit)) (r .n) (r .ok) (Rid (pairsOf (now (at .entry)) (now (word .entry)) cut) (of (now (put .exit))) e)
+        Went (pairsOf (now (at .entry)) (now (word .entry)) mask) (now (put .entry)) (now (trail .entry)) n (now (put .exit))
+        (now (trail .exit)) (r .n) (r .ok) (Rid (pairsOf (now (at .entry)) (now (word .entry)) mask) (of (now (put .exit))) e)
         ⌝ }
 {
     let p = put[e];
-    let a = clear(at, word, cut, last, prev, put, trail, n, e, p);
+    let a = clear(at, word, mask, last, prev, put, trail, n, e, p);
     if a.ok {
-        let b = near(at, word, cut, last, prev, put, trail, a.n, e, p + 2);
+        let b = near(at, word, mask, last, prev, put, trail, a.n, e, p + 2);
         if b.ok {
-            return near(at, word, cut, last, prev, put, trail, b.n, e, p);
+            return near(at, word, mask, last, prev, put, trail, b.n, e, p);
         }
         return b;
     }
@@ -252,7 +252,7 @@ fn rid(
 pub fn follow(
     at: &[usize],
     word: &[u32],
-    cut: u32,
+    mask: u32,
     last: &[usize],
     prev: &[usize],
     put: &mut [usize],
@@ -261,16 +261,16 @@ pub fn follow(
     e: usize,
     p: usize,
 ) -> Step
-    requires { ⌜ Ready (now at) (now word) cut (now last) (now prev) (now put) (now trail) n ⌝ }
-    requires { ⌜ Closed (pairsOf (now at) (now word) cut) (of (now put)) ⌝ }
+    requires { ⌜ Ready (now at) (now word) mask (now last) (now prev) (now put) (now trail) n ⌝ }
+    requires { ⌜ Closed (pairsOf (now at) (now word) mask) (of (now put)) ⌝ }
     requires { ⌜
         (e < length (now word))
         × (length (now word) ≤ of (now put) e)
         × (p < length (now word))
-        × Stands (pairsOf (now at) (now word) cut) e p
+        × Stands (pairsOf (now at) (now word) mask) e p
         ⌝ }
     ensures { λ r. ⌜
-        Follows (pairsOf (now (at .entry)) (now (word .entry)) cut) (now (put .entry)) (now (trail .entry)) n e p (now (put .exit))
+        Follows (pairsOf (now (at .entry)) (now (word .entry)) mask) (now (put .entry)) (now (trail .entry)) n e p (now (put .exit))
         (now (trail .exit)) (r .n) (r .ok)
         ⌝ }
 {
@@ -280,7 +280,7 @@ pub fn follow(
     let mut far = n + 1;
     while top < far {
         let f = trail[top];
-        let g = rid(at, word, cut, last, prev, put, trail, far, f);
+        let g = rid(at, word, mask, last, prev, put, trail, far, f);
         if g.ok {
             far = g.n;
             top += 1;
@@ -309,7 +309,7 @@ pub fn undo(put: &mut [usize], trail: &[usize], from: usize, n: usize)
 pub fn attempt(
     at: &[usize],
     word: &[u32],
-    cut: u32,
+    mask: u32,
     last: &[usize],
     prev: &[usize],
     put: &mut [usize],
@@ -318,20 +318,20 @@ pub fn attempt(
     e: usize,
     p: usize,
 ) -> bool
-    requires { ⌜ Ready (now at) (now word) cut (now last) (now prev) (now put) (now trail) n ⌝ }
-    requires { ⌜ Closed (pairsOf (now at) (now word) cut) (of (now put)) ⌝ }
+    requires { ⌜ Ready (now at) (now word) mask (now last) (now prev) (now put) (now trail) n ⌝ }
+    requires { ⌜ Closed (pairsOf (now at) (now word) mask) (of (now put)) ⌝ }
     requires { ⌜
         (e < length (now word))
         × (length (now word) ≤ of (now put) e)
         × (p < length (now word))
-        × Stands (pairsOf (now at) (now word) cut) e p
+        × Stands (pairsOf (now at) (now word) mask) e p
         ⌝ }
     ensures { λ r. ⌜
-        Attempt (pairsOf (now (at .entry)) (now (word .entry)) cut) (now (put .entry)) (now (trail .entry)) n e p (now (put .exit))
+        Attempt (pairsOf (now (at .entry)) (now (word .entry)) mask) (now (put .entry)) (now (trail .entry)) n e p (now (put .exit))
         (now (trail .exit)) r
         ⌝ }
 {
-    let g = follow(at, word, cut, last, prev, put, trail, n, e, p);
+    let g = follow(at, word, mask, last, prev, put, trail, n, e, p);
     undo(put, trail, n, g.n);
     g.ok
 }

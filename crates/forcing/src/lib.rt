@@ -54,7 +54,7 @@ fn also_entry(put: &[usize], e: usize, t: usize, s: Entries) -> Entries
 fn entries_at(
     at: &[usize],
     word: &[u32],
-    cut: u32,
+    mask: u32,
     last: &[usize],
     prev: &[usize],
     put: &[usize],
@@ -63,10 +63,10 @@ fn entries_at(
     requires { ⌜
         (t < length (now word))
         × (length (now put) ≡ length (now word))
-        × Card (now at) (now word) cut
+        × Card (now at) (now word) mask
         × Links (now at) (now word) (now last) (now prev)
         ⌝ }
-    ensures { λ r. ⌜ Common (keyed (pairsOf (now (at .entry)) (now (word .entry)) cut)) (of (now (put .entry))) t 0 (r .one) (r .many) ⌝ }
+    ensures { λ r. ⌜ Common (keyed (pairsOf (now (at .entry)) (now (word .entry)) mask)) (of (now (put .entry))) t 0 (r .one) (r .many) ⌝ }
 {
     let mut s = Entries { one: 0, many: 0 };
     let mut k = last[t];
@@ -94,7 +94,7 @@ fn stands(at: &[usize], e: usize, t: usize) -> bool
 fn force(
     at: &[usize],
     word: &[u32],
-    cut: u32,
+    mask: u32,
     last: &[usize],
     prev: &[usize],
     put: &mut [usize],
@@ -102,12 +102,12 @@ fn force(
     n: usize,
     t: usize,
 ) -> Step
-    requires { ⌜ Ready (now at) (now word) cut (now last) (now prev) (now put) (now trail) n ⌝ }
-    requires { ⌜ Root (pairsOf (now at) (now word) cut) (of (now put)) ⌝ }
+    requires { ⌜ Ready (now at) (now word) mask (now last) (now prev) (now put) (now trail) n ⌝ }
+    requires { ⌜ Root (pairsOf (now at) (now word) mask) (of (now put)) ⌝ }
     requires { ⌜ t < length (now word) ⌝ }
-    ensures { λ r. ⌜ Roots (pairsOf (now (at .entry)) (now (word .entry)) cut) (now (put .exit)) (now (trail .exit)) (r .n) (r .ok) ⌝ }
+    ensures { λ r. ⌜ Roots (pairsOf (now (at .entry)) (now (word .entry)) mask) (now (put .exit)) (now (trail .exit)) (r .n) (r .ok) ⌝ }
 {
-    let s = entries_at(at, word, cut, last, prev, put, t);
+    let s = entries_at(at, word, mask, last, prev, put, t);
     if s.many == 0 {
         return Step { n, ok: false };
     }
@@ -116,7 +116,7 @@ fn force(
         if e < word.len() {
             if put[e] >= word.len() {
                 if stands(at, e, t) {
-                    return following::follow(at, word, cut, last, prev, put, trail, n, e, t);
+                    return following::follow(at, word, mask, last, prev, put, trail, n, e, t);
                 }
             }
         }
@@ -165,7 +165,7 @@ fn count_up(at: &[usize], count: &mut [usize])
 fn force_if(
     at: &[usize],
     word: &[u32],
-    cut: u32,
+    mask: u32,
     last: &[usize],
     prev: &[usize],
     put: &mut [usize],
@@ -174,13 +174,13 @@ fn force_if(
     t: usize,
     few: bool,
 ) -> Step
-    requires { ⌜ Ready (now at) (now word) cut (now last) (now prev) (now put) (now trail) n ⌝ }
-    requires { ⌜ Root (pairsOf (now at) (now word) cut) (of (now put)) ⌝ }
+    requires { ⌜ Ready (now at) (now word) mask (now last) (now prev) (now put) (now trail) n ⌝ }
+    requires { ⌜ Root (pairsOf (now at) (now word) mask) (of (now put)) ⌝ }
     requires { ⌜ t < length (now word) ⌝ }
-    ensures { λ r. ⌜ Roots (pairsOf (now (at .entry)) (now (word .entry)) cut) (now (put .exit)) (now (trail .exit)) (r .n) (r .ok) ⌝ }
+    ensures { λ r. ⌜ Roots (pairsOf (now (at .entry)) (now (word .entry)) mask) (now (put .exit)) (now (trail .exit)) (r .n) (r .ok) ⌝ }
 {
     if few {
-        return force(at, word, cut, last, prev, put, trail, n, t);
+        return force(at, word, mask, last, prev, put, trail, n, t);
     }
     Step { n, ok: true }
 }
@@ -189,7 +189,7 @@ fn force_if(
 fn force_all(
     at: &[usize],
     word: &[u32],
-    cut: u32,
+    mask: u32,
     last: &[usize],
     prev: &[usize],
     put: &mut [usize],
@@ -197,16 +197,16 @@ fn force_all(
     n: usize,
     count: &[usize],
 ) -> Step
-    requires { ⌜ Ready (now at) (now word) cut (now last) (now prev) (now put) (now trail) n ⌝ }
-    requires { ⌜ Root (pairsOf (now at) (now word) cut) (of (now put)) ⌝ }
+    requires { ⌜ Ready (now at) (now word) mask (now last) (now prev) (now put) (now trail) n ⌝ }
+    requires { ⌜ Root (pairsOf (now at) (now word) mask) (of (now put)) ⌝ }
     requires { ⌜ length (now count) ≡ length (now word) ⌝ }
-    ensures { λ r. ⌜ Roots (pairsOf (now (at .entry)) (now (word .entry)) cut) (now (put .exit)) (now (trail .exit)) (r .n) (r .ok) ⌝ }
+    ensures { λ r. ⌜ Roots (pairsOf (now (at .entry)) (now (word .entry)) mask) (now (put .exit)) (now (trail .exit)) (r .n) (r .ok) ⌝ }
 {
     let mut far = n;
     let mut t = 0;
     while t < word.len() {
         let k = count[t];
-        let g = force_if(at, word, cut, last, prev, put, trail, far, t, k < 2);
+        let g = force_if(at, word, mask, last, prev, put, trail, far, t, k < 2);
         if g.ok {
             far = g.n;
             t += 1;
@@ -221,7 +221,7 @@ fn force_all(
 fn spread(
     at: &[usize],
     word: &[u32],
-    cut: u32,
+    mask: u32,
     last: &[usize],
     prev: &[usize],
     put: &mut [usize],
@@ -229,10 +229,10 @@ fn spread(
     n: usize,
     count: &mut [usize],
 ) -> Step
-    requires { ⌜ Ready (now at) (now word) cut (now last) (now prev) (now put) (now trail) n ⌝ }
-    requires { ⌜ Root (pairsOf (now at) (now word) cut) (of (now put)) ⌝ }
+    requires { ⌜ Ready (now at) (now word) mask (now last) (now prev) (now put) (now trail) n ⌝ }
+    requires { ⌜ Root (pairsOf (now at) (now word) mask) (of (now put)) ⌝ }
     requires { ⌜ length (now count) ≡ length (now word) ⌝ }
-    ensures { λ r. ⌜ Roots (pairsOf (now (at .entry)) (now (word .entry)) cut) (now (put .exit)) (now (trail .exit)) (r .n) (r .ok) ⌝ }
+    ensures { λ r. ⌜ Roots (pairsOf (now (at .entry)) (now (word .entry)) mask) (now (put .exit)) (now (trail .exit)) (r .n) (r .ok) ⌝ }
 {
     let mut far = n;
     let mut seen = 0;
@@ -241,7 +241,7 @@ fn spread(
         let p = put[e];
         let q = following::other(at, e, p);
         let few = fewer(count, q);
-        let g = force_if(at, word, cut, last, prev, put, trail, far, q, few);
+        let g = force_if(at, word, mask, last, prev, put, trail, far, q, few);
         if g.ok {
             far = g.n;
             seen += 1;
@@ -256,7 +256,7 @@ fn spread(
 pub fn root(
     at: &[usize],
     word: &[u32],
-    cut: u32,
+    mask: u32,
     last: &[usize],
     prev: &[usize],
     put: &mut [usize],
@@ -264,16 +264,16 @@ pub fn root(
     n: usize,
     count: &mut [usize],
 ) -> Step
-    requires { ⌜ Ready (now at) (now word) cut (now last) (now prev) (now put) (now trail) n ⌝ }
-    requires { ⌜ Root (pairsOf (now at) (now word) cut) (of (now put)) ⌝ }
+    requires { ⌜ Ready (now at) (now word) mask (now last) (now prev) (now put) (now trail) n ⌝ }
+    requires { ⌜ Root (pairsOf (now at) (now word) mask) (of (now put)) ⌝ }
     requires { ⌜ length (now count) ≡ length (now word) ⌝ }
-    ensures { λ r. ⌜ Roots (pairsOf (now (at .entry)) (now (word .entry)) cut) (now (put .exit)) (now (trail .exit)) (r .n) (r .ok) ⌝ }
+    ensures { λ r. ⌜ Roots (pairsOf (now (at .entry)) (now (word .entry)) mask) (now (put .exit)) (now (trail .exit)) (r .n) (r .ok) ⌝ }
 {
     fill(count, 0);
     count_up(at, count);
-    let a = force_all(at, word, cut, last, prev, put, trail, n, count);
+    let a = force_all(at, word, mask, last, prev, put, trail, n, count);
     if a.ok {
-        return spread(at, word, cut, last, prev, put, trail, a.n, count);
+        return spread(at, word, mask, last, prev, put, trail, a.n, count);
     }
     a
 }

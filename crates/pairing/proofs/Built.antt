@@ -63,7 +63,7 @@ builds-none h = record { yes = λ x. absurd (true≢false (sym x)); no = λ _. h
 
 -- ---- what the calls ask
 
-pub link-asks : {at word : List ℕ} {cut : ℕ} (last : List ℕ) {last′ : List ℕ} (prev : List ℕ) → Card at word cut
+pub link-asks : {at word : List ℕ} {mask : ℕ} (last : List ℕ) {last′ : List ℕ} (prev : List ℕ) → Card at word mask
     → length last ≡ length word → length prev ≡ length at → last′ ≡ replicate (length last) 0
     → ((x : ℕ) → x < length at → of at x < length last′) × (length prev ≡ length at) × ((t : ℕ) → t < length last′ → of last′ t ≡ 0)
 link-asks {at} last {last′} prev k h g e =
@@ -72,24 +72,24 @@ link-asks {at} last {last′} prev k h g e =
     len : length last′ ≡ length last
     len = ap length e ∙ length-replicate (length last) 0
 
-pub begin : {at word : List ℕ} {cut : ℕ} {last prev : List ℕ} (put : List ℕ) {put′ trail : List ℕ} (count words : List ℕ)
-    → Card at word cut → Links at word last prev → length put ≡ length word → length trail ≡ length word → length words ≡ length word
+pub begin : {at word : List ℕ} {mask : ℕ} {last prev : List ℕ} (put : List ℕ) {put′ trail : List ℕ} (count words : List ℕ)
+    → Card at word mask → Links at word last prev → length put ≡ length word → length trail ≡ length word → length words ≡ length word
     → length count ≡ length word
     → put′ ≡ replicate (length put) (length word)
-    → Ready at word cut last prev put′ trail 0 ×
-    (Root (pairsOf at word cut) (of put′) × ((length count ≡ length word) × (length words ≡ length word)))
-begin {at} {word} {cut} put {put′} {trail} count words k l a b f d e =
+    → Ready at word mask last prev put′ trail 0 ×
+    (Root (pairsOf at word mask) (of put′) × ((length count ≡ length word) × (length words ≡ length word)))
+begin {at} {word} {mask} put {put′} {trail} count words k l a b f d e =
     rw here (record { card = k; links = l; shape = blank-trail b }, (blank-root, (d, f)))
   where
     here : put′ ≡ replicate (length word) (length word)
     here = e ∙ ap (λ (n : ℕ). replicate n (length word)) a
 
 -- after the root the words can be decided
-pub rooted : {at word : List ℕ} {cut : ℕ} {last prev put trail : List ℕ} (words : List ℕ) {n : ℕ} {ok : Bool} → Card at word cut
-    → Links at word last prev → Roots (pairsOf at word cut) put trail n ok → ok ≡ true → length words ≡ length word
-    → Ready at word cut last prev put trail n ×
-    (Closed (pairsOf at word cut) (of put) × ((length words ≡ length word) × Upto (pairsOf at word cut) (of put) 0 (of words) 0))
-rooted {at} {word} {cut} {put} words k l r h d =
+pub rooted : {at word : List ℕ} {mask : ℕ} {last prev put trail : List ℕ} (words : List ℕ) {n : ℕ} {ok : Bool} → Card at word mask
+    → Links at word last prev → Roots (pairsOf at word mask) put trail n ok → ok ≡ true → length words ≡ length word
+    → Ready at word mask last prev put trail n ×
+    (Closed (pairsOf at word mask) (of put) × ((length words ≡ length word) × Upto (pairsOf at word mask) (of put) 0 (of words) 0))
+rooted {at} {word} {mask} {put} words k l r h d =
     let y = r .good h in
-    let none = upto-none (pairsOf at word cut) (of put) (of words) (y .closed) (y .every) in
+    let none = upto-none (pairsOf at word mask) (of put) (of words) (y .closed) (y .every) in
     (record { card = k; links = l; shape = r .shape }, (y .closed, (d, none)))

@@ -4,7 +4,7 @@ use mathlib.Core.Path.{_≡_, refl, sym, ap, _∙_}
 use mathlib.Core.Logic.{_⊎_, inl, inr, ⊎-map, ⊎-elim}
 use mathlib.Core.Bool.{Bool, cond}
 use mathlib.Core.List.{List}
-use Prim.Native.Nat.{ℕ, _+_, _*_, _-_, _/_, _^_, _<_}
+use Prim.Native.Nat.{ℕ, suc, _+_, _*_, _-_, _/_, _^_, _<_}
 use native.Mathlib.Omega.{arith}
 use lib.Dec.{eqb}
 use lib.ListN.{length, getD, length-map}
@@ -17,7 +17,7 @@ use Rattle.entries.specs.Slot.{slotFrom, entriesIn}
 use Rattle.entries.proofs.Allowed.{pair-entry, pair-below}
 use Rattle.entries.proofs.SlotLaws.{slot-from}
 use Rattle.sequence.specs.Lists.{In}
-use Rattle.sequence.proofs.LetterLaws.{pow-pos, overlap-is, is-overlap}
+use Rattle.sequence.proofs.LetterLaws.{overlap-is, is-overlap, mask-tail}
 use Rattle.pairs.specs.Arranged.{Stands}
 use Rattle.pairs.specs.Described.{Described}
 use Rattle.pairs.specs.Settling.{pairEntries}
@@ -43,8 +43,11 @@ entry-at words ones twos e h d =
     ∙ ap (entryOf pair) (slot-from words ones twos e)
     ∙ pair-entry (record { word = getD words e 0; one = getD ones e 0; two = getD twos e 0 })
 
-module _ {l : ℕ} {words ones twos : List ℕ} (k : PairCard l words ones twos) {at : List ℕ} (p : PlacesFrom ones twos at) {cut : ℕ}
-    (c : cut ≡ 4 ^ (l - 1)) where
+module _ {l : ℕ} {words ones twos : List ℕ} (k : PairCard l words ones twos) {at : List ℕ} (p : PlacesFrom ones twos at) {mask : ℕ}
+    (c : suc mask ≡ 4 ^ (l - 1)) where
+  masks : mask + 1 ≡ 4 ^ (l - 1)
+  masks = omega (arith, c)
+
   -- ---- the places of an entry
 
   module _ (e : ℕ) (h : e < length words) where
@@ -62,23 +65,23 @@ module _ {l : ℕ} {words ones twos : List ℕ} (k : PairCard l words ones twos)
     two-below : getD at (2 * e + 1) 0 < length words
     two-below = rw (p .two e in-ones) (below (secondOf (getD ones e 0) (getD twos e 0)) (inr refl))
 
-    stands-two : (q : ℕ) → (q ≡ getD ones e 0) ⊎ (q ≡ secondOf (getD ones e 0) (getD twos e 0)) → Stands (pairsOf at words cut) e q
+    stands-two : (q : ℕ) → (q ≡ getD ones e 0) ⊎ (q ≡ secondOf (getD ones e 0) (getD twos e 0)) → Stands (pairsOf at words mask) e q
     stands-two q x = ⊎-map (λ y. y ∙ sym (p .one e in-ones)) (λ y. y ∙ sym (p .two e in-ones)) x
 
-    two-stands : (q : ℕ) → Stands (pairsOf at words cut) e q → (q ≡ getD ones e 0) ⊎ (q ≡ secondOf (getD ones e 0) (getD twos e 0))
+    two-stands : (q : ℕ) → Stands (pairsOf at words mask) e q → (q ≡ getD ones e 0) ⊎ (q ≡ secondOf (getD ones e 0) (getD twos e 0))
     two-stands q x = ⊎-map (λ y. y ∙ p .one e in-ones) (λ y. y ∙ p .two e in-ones) x
 
   -- ---- the tables
 
-  pub card-of : Card at words cut
-  card-of = record { slots = p .slots ∙ ap (λ (n : ℕ). 2 * n) (k .ones-too); inside = inside; cuts = rw c (pow-pos (l - 1)) }
+  pub card-of : Card at words mask
+  card-of = record { slots = p .slots ∙ ap (λ (n : ℕ). 2 * n) (k .ones-too); inside = inside; ones = (l - 1, masks) }
     where
       inside : (x : ℕ) → x < length at → getD at x 0 < length words
       inside x h =
           let e : x / 2 < length words = omega (arith, p .slots, k .ones-too) in
           ⊎-elim (λ y. rw y (one-below (x / 2) e)) (λ y. rw y (two-below (x / 2) e)) (slot-of {x = x})
 
-  described : Described l (pairEntries (entriesIn words ones twos)) (pairsOf at words cut)
+  described : Described l (pairEntries (entriesIn words ones twos)) (pairsOf at words mask)
   described =
       record {
         many = length-map (entriesIn words ones twos) (entryOf pair) ∙ length-row (slotFrom words ones twos) 0 (length words);
@@ -89,13 +92,13 @@ module _ {l : ℕ} {words ones twos : List ℕ} (k : PairCard l words ones twos)
         word = λ d e h. ap (λ (x : Entry). x .word) (entry-at words ones twos e h d);
         allowed = λ d e q h a. stands-two e h q (allowed-two (getD ones e 0) (getD twos e 0) q (rw (entry-at words ones twos e h d) at a));
         allows-it = λ d e q h s. rw (entry-at words ones twos e h d) (two-allowed (getD ones e 0) (getD twos e 0) q (two-stands e h q s));
-        meets = λ e f g h o. rw c (overlap-is l (getD words e 0) (getD words f 0) o);
-        met = λ e f g h o. is-overlap l (getD words e 0) (getD words f 0) (rw c at o);
+        meets = λ e f g h o. mask-tail l mask (getD words e 0) masks ∙ overlap-is l (getD words e 0) (getD words f 0) o;
+        met = λ e f g h o. is-overlap l (getD words e 0) (getD words f 0) (sym (mask-tail l mask (getD words e 0) masks) ∙ o);
       }
 
   -- ---- the verdict
 
-  pub gives : {ws : List ℕ} {n : ℕ} {found : Bool} → length ws ≡ length words → Builds (pairsOf at words cut) ws n found
+  pub gives : {ws : List ℕ} {n : ℕ} {found : Bool} → length ws ≡ length words → Builds (pairsOf at words mask) ws n found
       → Gives l (entriesIn words ones twos) found n ws
   gives {ws} {n} all b =
       record {

@@ -72,7 +72,7 @@ fn link(at: &[usize], last: &mut [usize], prev: &mut [usize])
 fn decide(
     at: &[usize],
     word: &[u32],
-    cut: u32,
+    mask: u32,
     last: &[usize],
     prev: &[usize],
     put: &mut [usize],
@@ -80,16 +80,16 @@ fn decide(
     count: &mut [usize],
     words: &mut [u32],
 ) -> Paired
-    requires { ⌜ Ready (now at) (now word) cut (now last) (now prev) (now put) (now trail) 0 ⌝ }
-    requires { ⌜ Root (pairsOf (now at) (now word) cut) (of (now put)) ⌝ }
+    requires { ⌜ Ready (now at) (now word) mask (now last) (now prev) (now put) (now trail) 0 ⌝ }
+    requires { ⌜ Root (pairsOf (now at) (now word) mask) (of (now put)) ⌝ }
     requires { ⌜ (length (now count) ≡ length (now word)) × (length (now words) ≡ length (now word)) ⌝ }
-    ensures { λ r. ⌜ Builds (pairsOf (now (at .entry)) (now (word .entry)) cut) (now (words .exit)) (r .choices) (r .found) ⌝ }
+    ensures { λ r. ⌜ Builds (pairsOf (now (at .entry)) (now (word .entry)) mask) (now (words .exit)) (r .choices) (r .found) ⌝ }
 {
-    let r = forcing::root(at, word, cut, last, prev, put, trail, 0, count);
+    let r = forcing::root(at, word, mask, last, prev, put, trail, 0, count);
     if r.ok {
-        let a = choosing::choose_all(at, word, cut, last, prev, put, trail, r.n, words);
+        let a = choosing::choose_all(at, word, mask, last, prev, put, trail, r.n, words);
         if a.ok {
-            if settling::settle_all(at, word, cut, last, prev, put, trail, a.n) {
+            if settling::settle_all(at, word, mask, last, prev, put, trail, a.n) {
                 return Paired {
                     found: true,
                     choices: a.choices,
@@ -107,7 +107,7 @@ fn decide(
 fn from_places(
     at: &[usize],
     word: &[u32],
-    cut: u32,
+    mask: u32,
     last: &mut [usize],
     prev: &mut [usize],
     put: &mut [usize],
@@ -115,7 +115,7 @@ fn from_places(
     count: &mut [usize],
     words: &mut [u32],
 ) -> Paired
-    requires { ⌜ Card (now at) (now word) cut ⌝ }
+    requires { ⌜ Card (now at) (now word) mask ⌝ }
     requires { ⌜
         (length (now last) ≡ length (now word))
         × (length (now prev) ≡ length (now at))
@@ -124,12 +124,12 @@ fn from_places(
         × (length (now words) ≡ length (now word))
         × (length (now count) ≡ length (now word))
         ⌝ }
-    ensures { λ r. ⌜ Builds (pairsOf (now (at .entry)) (now (word .entry)) cut) (now (words .exit)) (r .choices) (r .found) ⌝ }
+    ensures { λ r. ⌜ Builds (pairsOf (now (at .entry)) (now (word .entry)) mask) (now (words .exit)) (r .choices) (r .found) ⌝ }
 {
     forcing::fill(last, 0);
     link(at, last, prev);
     forcing::fill(put, word.len());
-    decide(at, word, cut, last, prev, put, trail, count, words)
+    decide(at, word, mask, last, prev, put, trail, count, words)
 }
 
 // The same from the lists of a card, with room for just as many entries.
@@ -158,9 +158,9 @@ fn from_lists(
         (now (first .exit))
         ⌝ }
 {
-    let cut = entries::words_of(l - 1);
+    let mask = entries::words_of(l - 1) - 1;
     places(ones, twos, at);
-    from_places(at, words, cut, last, prev, put, trail, count, first)
+    from_places(at, words, mask, last, prev, put, trail, count, first)
 }
 
 // The verdict on a pair card that the entry rules admit. Where there is a build, `first` begins with the words of the alphabetically first

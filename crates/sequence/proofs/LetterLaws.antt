@@ -4,11 +4,13 @@ use mathlib.Core.Path.{_≡_, refl, sym, _∙_, ap, ap₂}
 use mathlib.Core.Logic.{inl, ⊎-elim}
 use mathlib.Core.Bool.{true}
 use mathlib.Core.List.{[], _∷_, _++_}
-use Prim.Native.Nat.{ℕ, zero, suc, _+_, _-_, _*_, _^_, _/_, _%_, _<_}
+use Prim.Native.Nat.{ℕ, zero, suc, _+_, _-_, _*_, _^_, _/_, _%_, _≤_, _<_}
 use native.Mathlib.Omega.{arith}
 use native.Mathlib.Nat.{eq-or-lt-of-le, pow-suc, mod-lt}
 use lib.ListN.{length, take, drop, length-append}
 use lib.Arith.{mod-mul}
+use lib.Bits.{bitAnd, and-mask}
+use lib.Pow.{pow-mono}
 use lib.Seq.{take-at}
 use borrow.Author.Tests.{eqb-true, eq-eqb}
 use Rattle.sequence.specs.Arrangement.{overlaps}
@@ -45,6 +47,20 @@ letters-one l w v h g e =
 pub pow-pos : (k : ℕ) → 0 < 4 ^ k
 pow-pos zero = omega arith
 pow-pos (suc k) = let h = pow-pos k in omega arith
+
+four-pow : (k : ℕ) → 4 ^ k ≡ 2 ^ (2 * k)
+four-pow zero = refl
+four-pow (suc k) = let h = four-pow k in let e : 2 * suc k ≡ suc (suc (2 * k)) = omega arith in rw e (omega arith)
+
+-- how many words of l letters there are, by bits
+pub words-bits : (l most : ℕ) → l ≤ most → 4 ^ l ≤ 2 ^ (2 * most)
+words-bits l most h = let g : 2 ^ (2 * l) ≤ 2 ^ (2 * most) = pow-mono {i = 2 * l} {j = 2 * most} (omega arith) in omega (arith, g, four-pow l)
+
+-- a mask of ones takes the last letters of a word
+pub mask-tail : (l mask w : ℕ) → mask + 1 ≡ 4 ^ (l - 1) → bitAnd w mask ≡ w % 4 ^ (l - 1)
+mask-tail l mask w e =
+    let ones : mask ≡ 2 ^ (2 * (l - 1)) - 1 = omega (arith, four-pow (l - 1)) in
+    ap (bitAnd w) ones ∙ and-mask w (2 * (l - 1)) ∙ ap (λ x. w % x) (sym (four-pow (l - 1)))
 
 -- the first letter, and the letters of what is below it
 pub letters-cons : (k w : ℕ) → (d : ℕ) × (lettersOf (suc k) w ≡ d ∷ lettersOf k (w % 4 ^ k))

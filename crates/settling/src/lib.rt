@@ -11,7 +11,7 @@ use following::Step;
 fn settle(
     at: &[usize],
     word: &[u32],
-    cut: u32,
+    mask: u32,
     last: &[usize],
     prev: &[usize],
     put: &mut [usize],
@@ -19,11 +19,11 @@ fn settle(
     n: usize,
     e: usize,
 ) -> Step
-    requires { ⌜ Ready (now at) (now word) cut (now last) (now prev) (now put) (now trail) n ⌝ }
-    requires { ⌜ Closed (pairsOf (now at) (now word) cut) (of (now put)) ⌝ }
+    requires { ⌜ Ready (now at) (now word) mask (now last) (now prev) (now put) (now trail) n ⌝ }
+    requires { ⌜ Closed (pairsOf (now at) (now word) mask) (of (now put)) ⌝ }
     requires { ⌜ e < length (now word) ⌝ }
     ensures { λ r. ⌜
-        Settles (pairsOf (now (at .entry)) (now (word .entry)) cut) (now (put .entry)) e (now (put .exit)) (now (trail .exit)) (r .n)
+        Settles (pairsOf (now (at .entry)) (now (word .entry)) mask) (now (put .entry)) e (now (put .exit)) (now (trail .exit)) (r .n)
         (r .ok)
         ⌝ }
 {
@@ -33,33 +33,33 @@ fn settle(
     let slot = 2 * e;
     let one = at[slot];
     let two = at[slot + 1];
-    let g = following::follow(at, word, cut, last, prev, put, trail, n, e, one);
+    let g = following::follow(at, word, mask, last, prev, put, trail, n, e, one);
     if g.ok {
         return g;
     }
     following::undo(put, trail, n, g.n);
-    following::follow(at, word, cut, last, prev, put, trail, n, e, two)
+    following::follow(at, word, mask, last, prev, put, trail, n, e, two)
 }
 
 // Gives every entry a place, where that can be done.
 pub fn settle_all(
     at: &[usize],
     word: &[u32],
-    cut: u32,
+    mask: u32,
     last: &[usize],
     prev: &[usize],
     put: &mut [usize],
     trail: &mut [usize],
     n: usize,
 ) -> bool
-    requires { ⌜ Ready (now at) (now word) cut (now last) (now prev) (now put) (now trail) n ⌝ }
-    requires { ⌜ Closed (pairsOf (now at) (now word) cut) (of (now put)) ⌝ }
-    ensures { λ r. ⌜ SettlesAll (pairsOf (now (at .entry)) (now (word .entry)) cut) (now (put .entry)) (now (put .exit)) r ⌝ }
+    requires { ⌜ Ready (now at) (now word) mask (now last) (now prev) (now put) (now trail) n ⌝ }
+    requires { ⌜ Closed (pairsOf (now at) (now word) mask) (of (now put)) ⌝ }
+    ensures { λ r. ⌜ SettlesAll (pairsOf (now (at .entry)) (now (word .entry)) mask) (now (put .entry)) (now (put .exit)) r ⌝ }
 {
     let mut far = n;
     let mut e = 0;
     while e < word.len() {
-        let g = settle(at, word, cut, last, prev, put, trail, far, e);
+        let g = settle(at, word, mask, last, prev, put, trail, far, e);
         if g.ok {
             far = g.n;
             e += 1;

@@ -21,7 +21,8 @@ use Rattle.walk.proofs.StepLaws.{in-part, list-is, opened-list, ahead-a
 use Rattle.walk.proofs.Candidates.{Place, Alone, opened-alone, opened-below}
 use Rattle.walk.proofs.RunLaws.{shows-prefix, shows-spent, shows-reach}
 use Rattle.walk.proofs.Turns.{turn, turn-spent, turns-two, turns-spent, place-turns}
-use Rattle.walk.proofs.SpanLaws.{spans-rise, words-below, mask-tail}
+use Rattle.sequence.proofs.LetterLaws.{mask-tail}
+use Rattle.walk.proofs.SpanLaws.{spans-rise, words-below}
 
 -- the run at the place, to a reader of the definition
 abbrev whole : ℕ → List ℕ → List ℕ → List ℕ → List ℕ → ℕ → ℕ → Option ℕ → List ℕ → Run → Run

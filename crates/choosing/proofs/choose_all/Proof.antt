@@ -10,11 +10,11 @@ use Rattle.choosing.proofs.choose_all.Statement.{statement}
 use Rattle.choosing.proofs.choose_all.Tie as tie
 
 abbrev Inv-loop : tie.InvT-loop
-Inv-loop at word cut last prev put₀ trail₀ n words₀ far₀ choices₀ t₀ put trail words far choices t =
-    (t ≤ length word) × Deciding (pairsOf at word cut) put trail far choices words t
+Inv-loop at word mask last prev put₀ trail₀ n words₀ far₀ choices₀ t₀ put trail words far choices t =
+    (t ≤ length word) × Deciding (pairsOf at word mask) put trail far choices words t
 
 abbrev μ-loop : tie.MeasureT-loop
-μ-loop at word cut last prev put₀ trail₀ n words₀ far₀ choices₀ t₀ put trail words far choices t = length word - t
+μ-loop at word mask last prev put₀ trail₀ n words₀ far₀ choices₀ t₀ put trail words far choices t = length word - t
 
 abbrev entered : tie.After-slice-known3 Inv-loop μ-loop → tie.Start Inv-loop μ-loop
 entered c = c .before .before .before .before .before .before .before

@@ -11,11 +11,11 @@ use Rattle.choosing.proofs.keep_word.Statement.{statement}
 use Rattle.choosing.proofs.keep_word.Tie as tie
 
 abbrev Inv-loop : tie.InvT-loop
-Inv-loop at word cut last prev put₀ trail₀ n t w far₀ k₀ put trail far k =
-    Listing at t k × Dropping (pairsOf at word cut) put₀ t w k put trail far
+Inv-loop at word mask last prev put₀ trail₀ n t w far₀ k₀ put trail far k =
+    Listing at t k × Dropping (pairsOf at word mask) put₀ t w k put trail far
 
 abbrev μ-loop : tie.MeasureT-loop
-μ-loop at word cut last prev put₀ trail₀ n t w far₀ k₀ put trail far k = k
+μ-loop at word mask last prev put₀ trail₀ n t w far₀ k₀ put trail far k = k
 
 abbrev entered : tie.After-shared-slice-known5 Inv-loop μ-loop → tie.Start Inv-loop μ-loop
 entered c = c .before .before .before .before .before .before .before

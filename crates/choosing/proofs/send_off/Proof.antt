@@ -66,7 +66,7 @@ follow-requires c κs =
     let o = d .before in
     let b = free (o .before) in
     let pre = unlike b .pre in
-    let card = pairsOf (unlike b .args .at .now) (unlike b .args .word .now) (unlike b .args .cut) in
+    let card = pairsOf (unlike b .args .at .now) (unlike b .args .word .now) (unlike b .args .mask) in
     let inside = other-inside (pre .0 .card) (pre .1 .1 .0) (pre .1 .1 .2) in
     let stands = other-stands card (pre .1 .1 .2) in
     (pre .0, (pre .1 .0, (pre .1 .1 .0, o .before .if3 .left, rw (o .other .ensures) inside, rw (o .other .ensures) stands)))

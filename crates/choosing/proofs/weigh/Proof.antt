@@ -10,11 +10,11 @@ use Rattle.choosing.proofs.weigh.Statement.{statement}
 use Rattle.choosing.proofs.weigh.Tie as tie
 
 abbrev Inv-loop : tie.InvT-loop
-Inv-loop at word cut last prev put₀ trail₀ n t s₀ k₀ put trail s k =
-    Listing at t k × Weighing (pairsOf at word cut) put₀ n t k (s .least) (s .many) put trail
+Inv-loop at word mask last prev put₀ trail₀ n t s₀ k₀ put trail s k =
+    Listing at t k × Weighing (pairsOf at word mask) put₀ n t k (s .least) (s .many) put trail
 
 abbrev μ-loop : tie.MeasureT-loop
-μ-loop at word cut last prev put₀ trail₀ n t s₀ k₀ put trail s k = k
+μ-loop at word mask last prev put₀ trail₀ n t s₀ k₀ put trail s k = k
 
 abbrev entered : tie.After-shared-slice-known5 Inv-loop μ-loop → tie.Start Inv-loop μ-loop
 entered c = c .before .before .before .before .before .before .before

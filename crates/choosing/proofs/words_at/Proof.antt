@@ -11,10 +11,10 @@ use Rattle.choosing.proofs.words_at.Statement.{statement}
 use Rattle.choosing.proofs.words_at.Tie as tie
 
 abbrev Inv-loop : tie.InvT-loop
-Inv-loop at word cut last prev put t s₀ k₀ s k = Listing at t k × Common (pairsOf at word cut) (of put) t k (s .least) (s .many)
+Inv-loop at word mask last prev put t s₀ k₀ s k = Listing at t k × Common (pairsOf at word mask) (of put) t k (s .least) (s .many)
 
 abbrev μ-loop : tie.MeasureT-loop
-μ-loop at word cut last prev put t s₀ k₀ s k = k
+μ-loop at word mask last prev put t s₀ k₀ s k = k
 
 abbrev entered : tie.After-shared-slice-known6 Inv-loop μ-loop → tie.Start Inv-loop μ-loop
 entered c = c .before .before .before .before .before .before

@@ -8,10 +8,10 @@ use Rattle.following.proofs.can_be_filled.Statement.{statement}
 use Rattle.following.proofs.can_be_filled.Tie as tie
 
 abbrev Inv-loop : tie.InvT-loop
-Inv-loop at word cut last prev put q k₀ k = NoneFrom at word cut put q k
+Inv-loop at word mask last prev put q k₀ k = NoneFrom at word mask put q k
 
 abbrev μ-loop : tie.MeasureT-loop
-μ-loop at word cut last prev put q k₀ k = k
+μ-loop at word mask last prev put q k₀ k = k
 
 abbrev entered : tie.After-shared-slice-known6 Inv-loop μ-loop → tie.Start Inv-loop μ-loop
 entered c = c .before .before .before .before .before .before

@@ -10,10 +10,10 @@ use Rattle.following.proofs.clear.Statement.{statement}
 use Rattle.following.proofs.clear.Tie as tie
 
 abbrev Inv-loop : tie.InvT-loop
-Inv-loop at word cut last prev put₀ trail₀ n e q k₀ far₀ put trail k far = Clearing at word cut put₀ trail₀ n put trail far e q k
+Inv-loop at word mask last prev put₀ trail₀ n e q k₀ far₀ put trail k far = Clearing at word mask put₀ trail₀ n put trail far e q k
 
 abbrev μ-loop : tie.MeasureT-loop
-μ-loop at word cut last prev put₀ trail₀ n e q k₀ far₀ put trail k far = k
+μ-loop at word mask last prev put₀ trail₀ n e q k₀ far₀ put trail k far = k
 
 -- the arguments and what is asked of them
 abbrev start : tie.At-loop Inv-loop μ-loop → tie.Start Inv-loop μ-loop

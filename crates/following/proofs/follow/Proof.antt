@@ -11,11 +11,11 @@ use Rattle.following.proofs.follow.Statement.{statement}
 use Rattle.following.proofs.follow.Tie as tie
 
 abbrev Inv-loop : tie.InvT-loop
-Inv-loop at word cut last prev put₀ trail₀ n e p top₀ far₀ put trail top far =
-    Chasing (pairsOf at word cut) put₀ trail₀ far₀ put trail far top
+Inv-loop at word mask last prev put₀ trail₀ n e p top₀ far₀ put trail top far =
+    Chasing (pairsOf at word mask) put₀ trail₀ far₀ put trail far top
 
 abbrev μ-loop : tie.MeasureT-loop
-μ-loop at word cut last prev put₀ trail₀ n e p top₀ far₀ put trail top far = length word - top
+μ-loop at word mask last prev put₀ trail₀ n e p top₀ far₀ put trail top far = length word - top
 
 abbrev entered : tie.After-slice-known2 Inv-loop μ-loop → tie.Start Inv-loop μ-loop
 entered c = c .before .before .before .before .before .before

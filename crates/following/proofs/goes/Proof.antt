@@ -23,17 +23,11 @@ returns c at = goes-same (c .if1 .taken)
 add-if2 : tie.Need-add-if2
 add-if2 c = search needs
 
-rem-result : tie.Need-rem-result
-rem-result c = search needs
-
 returns-2 : tie.Need-returns-2
 returns-2 c at = goes-on (c .before .if1 .left) (c .if2 .taken) _ _ refl refl
 
 add-if3 : tie.Need-add-if3
 add-if3 c = search needs
-
-rem-result-2 : tie.Need-rem-result-2
-rem-result-2 c = search needs
 
 returns-3 : tie.Need-returns-3
 returns-3 c at = goes-back (c .before .before .if1 .left) (c .if3 .taken) _ _ refl refl
@@ -51,9 +45,7 @@ goes-spec =
     shared-slice-read-other
     returns
     add-if2
-    rem-result
     returns-2
     add-if3
-    rem-result-2
     returns-3
     returns-4)

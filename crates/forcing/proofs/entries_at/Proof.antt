@@ -13,10 +13,10 @@ use Rattle.forcing.proofs.entries_at.Statement.{statement}
 use Rattle.forcing.proofs.entries_at.Tie as tie
 
 abbrev Inv-loop : tie.InvT-loop
-Inv-loop at word cut last prev put t s₀ k₀ s k = Listing at t k × Common (keyed (pairsOf at word cut)) (of put) t k (s .one) (s .many)
+Inv-loop at word mask last prev put t s₀ k₀ s k = Listing at t k × Common (keyed (pairsOf at word mask)) (of put) t k (s .one) (s .many)
 
 abbrev μ-loop : tie.MeasureT-loop
-μ-loop at word cut last prev put t s₀ k₀ s k = k
+μ-loop at word mask last prev put t s₀ k₀ s k = k
 
 abbrev entered : tie.After-shared-slice-known6 Inv-loop μ-loop → tie.Start Inv-loop μ-loop
 entered c = c .before .before .before .before .before .before
@@ -64,7 +64,7 @@ loop-again c =
     let inv = t .before .loop .inv in
     let more = t .loop-test .taken in (
       list-more (pre .2) (pre .3) (pre .0) (inv .0) more,
-      entry-also (pairsOf (start (t .before) .args .at .now) (start (t .before) .args .word .now) (start (t .before) .args .cut)) (pre .0)
+      entry-also (pairsOf (start (t .before) .args .at .now) (start (t .before) .args .word .now) (start (t .before) .args .mask)) (pre .0)
           (list-entry (pre .2) (pre .3) (pre .0) (inv .0) more)
           (list-next (pre .2) (pre .3) (pre .0) (inv .0) more) (inv .1)
           (⊎-elim (λ x. inl (λ v. x .0 (rw (pre .1) v), x .1, x .2)) inr (c .before .also-entry .ensures)),

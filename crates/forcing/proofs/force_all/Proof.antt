@@ -11,11 +11,11 @@ use Rattle.forcing.proofs.force_all.Statement.{statement}
 use Rattle.forcing.proofs.force_all.Tie as tie
 
 abbrev Inv-loop : tie.InvT-loop
-Inv-loop at word cut last prev put₀ trail₀ n count far₀ t₀ put trail far t =
-    Trail (length word) put trail far × Root (pairsOf at word cut) (of put)
+Inv-loop at word mask last prev put₀ trail₀ n count far₀ t₀ put trail far t =
+    Trail (length word) put trail far × Root (pairsOf at word mask) (of put)
 
 abbrev μ-loop : tie.MeasureT-loop
-μ-loop at word cut last prev put₀ trail₀ n count far₀ t₀ put trail far t = length word - t
+μ-loop at word mask last prev put₀ trail₀ n count far₀ t₀ put trail far t = length word - t
 
 abbrev start : tie.At-loop Inv-loop μ-loop → tie.Start Inv-loop μ-loop
 start c = c .before .before .before .before .before .before .before .before

@@ -11,11 +11,11 @@ use Rattle.forcing.proofs.spread.Statement.{statement}
 use Rattle.forcing.proofs.spread.Tie as tie
 
 abbrev Inv-loop : tie.InvT-loop
-Inv-loop at word cut last prev put₀ trail₀ n count₀ far₀ seen₀ put trail count far seen =
-    Trail (length word) put trail far × Root (pairsOf at word cut) (of put) × (length count ≡ length word)
+Inv-loop at word mask last prev put₀ trail₀ n count₀ far₀ seen₀ put trail count far seen =
+    Trail (length word) put trail far × Root (pairsOf at word mask) (of put) × (length count ≡ length word)
 
 abbrev μ-loop : tie.MeasureT-loop
-μ-loop at word cut last prev put₀ trail₀ n count₀ far₀ seen₀ put trail count far seen = length word - seen
+μ-loop at word mask last prev put₀ trail₀ n count₀ far₀ seen₀ put trail count far seen = length word - seen
 
 abbrev start : tie.At-loop Inv-loop μ-loop → tie.Start Inv-loop μ-loop
 start c = c .before .before .before .before .before .before .before .before

@@ -9,10 +9,10 @@ use Rattle.settling.proofs.settle_all.Statement.{statement}
 use Rattle.settling.proofs.settle_all.Tie as tie
 
 abbrev Inv-loop : tie.InvT-loop
-Inv-loop at word cut last prev put₀ trail₀ n far₀ e₀ put trail far e = Settling (pairsOf at word cut) put₀ put trail far e
+Inv-loop at word mask last prev put₀ trail₀ n far₀ e₀ put trail far e = Settling (pairsOf at word mask) put₀ put trail far e
 
 abbrev μ-loop : tie.MeasureT-loop
-μ-loop at word cut last prev put₀ trail₀ n far₀ e₀ put trail far e = length word - e
+μ-loop at word mask last prev put₀ trail₀ n far₀ e₀ put trail far e = length word - e
 
 abbrev entered : tie.After-slice-known2 Inv-loop μ-loop → tie.Start Inv-loop μ-loop
 entered c = c .before .before .before .before .before .before

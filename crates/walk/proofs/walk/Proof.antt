@@ -5,7 +5,7 @@ use native.Mathlib.Omega.{arith}
 use lib.ListN.{length}
 use lib.Seq.{length-take-le, take-at}
 use borrow.Author.Needs.{needs}
-use Rattle.walk.proofs.SpanLaws.{pow-positive}
+use Rattle.sequence.proofs.LetterLaws.{pow-pos}
 use Rattle.walk.proofs.WholeLaws.{unmarked-first, ready-first, whole-walk}
 use Rattle.walk.proofs.walk.Statement.{statement}
 use Rattle.walk.proofs.walk.Tie as tie
@@ -29,7 +29,7 @@ masked c = c .before .before .before .before .before
 
 -- the mask has a one for each digit of a word's last letters
 masks : (c : tie.After-words-of) → c .words-of .result - 1 + 1 ≡ 4 ^ (start (filled (cleared c)) .args .l - 1)
-masks c = omega (arith, c .words-of .ensures, pow-positive (start (filled (cleared c)) .args .l - 1))
+masks c = omega (arith, c .words-of .ensures, pow-pos (start (filled (cleared c)) .args .l - 1))
 
 -- there is a mark and a slot of the first build for each entry
 module _ (c : tie.After-words-of) where
@@ -55,7 +55,7 @@ words-of-requires : tie.Need-words-of-requires
 words-of-requires c κs = search needs
 
 sub-mask : tie.Need-sub-mask
-sub-mask c = omega (arith, c .words-of .ensures, pow-positive (start (filled (cleared c)) .args .l - 1))
+sub-mask c = omega (arith, c .words-of .ensures, pow-pos (start (filled (cleared c)) .args .l - 1))
 
 slice-relend-prefix-walk-from : tie.Need-slice-relend-prefix-walk-from
 slice-relend-prefix-walk-from c = marks-room (c .before .before)
