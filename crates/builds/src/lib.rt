@@ -150,7 +150,7 @@ pub fn walk_lists(
     WalkAnswer::Walked(walk_into(l, words, ones, twos, budget, &mut out[..m]))
 }
 
-// What the method for pair lists comes to by what it finds: each free choice doubles the builds. It makes no placements.
+// What the method for pair lists comes to by what it finds: sole where no choice was free. It makes no placements.
 fn found_as(p: Paired) -> Walked
     ensures { λ r. ⌜ r ≡ foundAs (p .found) (p .choices) ⌝ }
 {
