@@ -9,6 +9,7 @@
 -- `Ordered`: an arrangement as the order of the entries, and as the place of each entry: the one gives the other.
 -- `Told`: what the method finds is the verdict on the card.
 -- `Meant`: what an answer means determines it; two cards, the second of which allows more.
+-- `Tables`: P1 to P7, from the definitions through one statement over the list.
 pub mod Pigeons
 pub mod Extends
 pub mod Places
@@ -20,3 +21,4 @@ pub mod PlaceByPlace
 pub mod Ordered
 pub mod Told
 pub mod Meant
+pub mod Tables

@@ -3,13 +3,17 @@
 --   pairTables            == P1 to P7
 --   spanTables            == S1 to S5
 --   tables                == all twelve
+--   stored e              == the entry e as it is stored
+--   storedIn t            == the entries of the table t as they are stored
 --   Told ts               == of each table in ts the verdict is true
 -- Assumes nothing.
-use mathlib.Core.List.{List, [], _∷_, _++_}
+use mathlib.Core.List.{List, [], _∷_, _++_, map}
 use Prim.Native.Nat.{ℕ, _+_, _*_}
 use Rattle.entries.specs.declared.Places.{Places}
 use Rattle.entries.specs.declared.Places.the-variants.{One, Two, Span}
+use Rattle.entries.specs.declared.Slot.{Slot}
 use Rattle.entries.specs.declared.Entry.{Entry}
+use Rattle.entries.specs.Fault.{noPlace}
 use Rattle.sequence.specs.Lists.{In}
 use Rattle.sequence.specs.Build.{Build}
 use Rattle.sequence.specs.Verdict.{Verdict, sole, several, noBuild, Tells}
@@ -119,6 +123,18 @@ spanTables = s1 ∷ s2 ∷ s3 ∷ s4 ∷ s5 ∷ []
 
 abbrev pub tables : List Table
 tables = pairTables ++ spanTables
+
+-- the entry as a card stores it
+abbrev pub storedPlaces : ℕ → Places → Slot
+storedPlaces w (One p) = record { word = w; one = p; two = noPlace }
+storedPlaces w (Two p q) = record { word = w; one = p; two = q }
+storedPlaces w (Span f g) = record { word = w; one = f; two = g }
+
+abbrev pub stored : Entry → Slot
+stored e = storedPlaces (e .word) (e .places)
+
+abbrev pub storedIn : Table → List Slot
+storedIn t = map stored (t .entries)
 
 abbrev pub Told : List Table → Type 0
 Told ts = (t : Table) → In t ts → Tells (Build 2 (t .entries)) (t .verdict)

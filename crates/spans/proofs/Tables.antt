@@ -6,11 +6,11 @@ use native.Mathlib.Omega.{arith}
 use Rattle.entries.specs.Entry.{placesOf, entryOf}
 use Rattle.sequence.specs.Arrangement.{overlaps}
 use Rattle.sequence.specs.Verdict.{unsettled}
-use Rattle.sequence.specs.Tables.{Table, spanTables, Told, s1}
+use Rattle.sequence.specs.Tables.{Table, storedIn, spanTables, Told, s1}
 use Rattle.sequence.proofs.Tables.{map-agree, spans-told}
 use Rattle.spans.specs.Walk.{placements}
 use Rattle.spans.specs.Settling.{spanEntries, Means, settles, goes-on}
-use Rattle.spans.specs.Tables.{storedIn, Settles}
+use Rattle.spans.specs.Tables.{Settles}
 
 -- tables of span entries whose verdicts are told settle with the placements of their walk
 pub tables-settle : (ts : List Table) → map (λ t. spanEntries (storedIn t)) ts ≡ map (λ t. t .entries) ts
