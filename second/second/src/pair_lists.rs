@@ -193,6 +193,25 @@ pub fn beside_a_ring(l: usize, m: usize, [ring, other]: [u32; 2]) -> Lists {
     })
 }
 
+/// Lists with one build: words that fail at one of their places, beside two long rings that run through the whole card.
+///
+/// The letters are ACAG over and over. In each group of eight the words CA
+/// and GA that stand beside a ring's places may go to the next group, all
+/// of them together, and three pairs of words may change places. A word that
+/// is tried at the wrong place meets a ring in which no word overlaps it, and
+/// whoever goes on from there goes round the ring. Words at the end that do
+/// not fill a group have their own places alone.
+pub fn beside_two_rings(m: usize) -> Lists {
+    let letters: Vec<u32> = (0..=m).map(|k| [0, 1, 0, 2][k % 4]).collect();
+    let filled = m - m % 8;
+    own_and(2, &words_in(&letters, 2), |place| match place % 8 {
+        _ if place >= filled => place,
+        1 | 7 => (place + 8) % filled,
+        0 | 3 | 4 => place + 2,
+        _ => place - 2,
+    })
+}
+
 /// Each word may also stand as far from the end as it stands from the start.
 pub fn mirrored(l: usize, words: &[u32]) -> Lists {
     own_and(l, words, |place| words.len() - 1 - place)

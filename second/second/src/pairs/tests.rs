@@ -6,8 +6,9 @@ use crate::cards::Random;
 use crate::entry::{Entry, Stored};
 use crate::lists::Lists;
 use crate::pair_lists::{
-    alone, any_pairs, any_sound_pairs, at_odds, beside_a_ring, by_turns, forced_down, forced_up,
-    in_steps, mirrored, pin, round_words, scattered, star, stars, with_choices,
+    alone, any_pairs, any_sound_pairs, at_odds, beside_a_ring, beside_two_rings, by_turns,
+    forced_down, forced_up, in_steps, mirrored, pin, round_words, scattered, star, stars,
+    with_choices,
 };
 use crate::profile::Kind;
 use crate::refusal::{Reason, Refusal};
@@ -301,6 +302,17 @@ fn pairs_beside_one_long_ring() {
             shuffle(&mut random, &mut lists);
             hold_choices(&lists, 0, &build);
         }
+    }
+}
+
+#[test]
+fn pairs_beside_two_long_rings() {
+    let mut random = Random::new(20);
+    for m in [1, 7, 8, 12, 16, 63, 504] {
+        let mut lists = beside_two_rings(m);
+        let build = lists.words.clone();
+        shuffle(&mut random, &mut lists);
+        hold_choices(&lists, 0, &build);
     }
 }
 

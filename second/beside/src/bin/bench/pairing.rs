@@ -6,7 +6,7 @@ use beside::answers::WalkAnswer;
 use beside::{firmware, independent};
 use second::cards::Random;
 use second::lists::Lists;
-use second::pair_lists::{beside_a_ring, forced_up, scattered, with_choices};
+use second::pair_lists::{beside_two_rings, forced_up, scattered, with_choices};
 use second::spans::{sequence, shuffle, words_in};
 
 use crate::timing::{measure, Operation};
@@ -59,7 +59,7 @@ fn samples(random: &mut Random) -> Vec<Sample> {
         ("one forced chain", |random, m| {
             forced_up(4, &words(random, 4, m))
         }),
-        ("beside one long ring", |_, m| beside_a_ring(2, m, [1, 0])),
+        ("beside two long rings", |_, m| beside_two_rings(m)),
     ];
     let mut samples = Vec::new();
     for (sort, card) in sorts {
