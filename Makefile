@@ -1,22 +1,56 @@
 # make            proves every crate, builds the programs, and runs each on its stored input
+# make run        proves and builds the program `build`, and runs it on a sample card; CARD=FILE for another card
 # make test       passes all tests: the same that the gate runs
+# make install    puts the program, its manual page and the C header below PREFIX, by default /usr/local; DESTDIR goes before it
 # make bench      times the compiled library beside the second implementation
+# make soak       compares them on COUNT random calls, by default 10000000; SEED=N for other calls
 # make vectors    writes the stored vectors anew from the second implementation
+# make samples    lays the sample cards out anew from their tables
 export CARGO_TARGET_DIR := $(CURDIR)/target/cargo
 export CARGO_NET_OFFLINE := true
 export BELFRYMIST_LIB := $(CURDIR)/target/archive
+export BELFRYMIST_BUILD := $(CURDIR)/target/bin/build
+export BELFRYMIST_REPORT := $(CURDIR)/target/cargo/release/report
 
-.PHONY: all test bench vectors
+PREFIX ?= /usr/local
+CARD ?= samples/s1.card
+COUNT ?= 10000000
+SEED ?= 1
+
+.PHONY: all program run test install archive report bench soak vectors samples
 
 all:
 	rt check
 
+program:
+	rt check build
+
+run: program
+	target/bin/build < $(CARD)
+
 test:
 	.ci/run
 
-bench:
+install: program
+	install -d $(DESTDIR)$(PREFIX)/bin $(DESTDIR)$(PREFIX)/share/man/man1 $(DESTDIR)$(PREFIX)/include
+	install -m 755 target/bin/build $(DESTDIR)$(PREFIX)/bin/build
+	install -m 644 man/build.1 $(DESTDIR)$(PREFIX)/share/man/man1/build.1
+	install -m 644 include/belfrymist.h $(DESTDIR)$(PREFIX)/include/belfrymist.h
+
+archive:
 	tests/archive target/archive
+
+report:
+	cd second && cargo build --release --quiet --bin report
+
+bench: program archive report
 	cd second && cargo run --release --quiet -p beside --bin bench
+
+soak: archive
+	cd second && cargo run --release --quiet -p beside --bin soak $(COUNT) $(SEED)
 
 vectors:
 	cd second && cargo run --release --quiet --bin make_vectors $(CURDIR)/crates/vectors
+
+samples:
+	python3 samples/make.py samples

@@ -122,6 +122,20 @@ module _ (f : ℕ → List Test) where
       let next : k + suc i ≡ suc k + i = omega arith in
       rw next (turns-held n (suc k) i (first-both (inTurn f (suc k) n) sound (f k) sound e .1) (omega arith))
 
+-- ---- what is given is not refused
+
+pub given-not-refused : {A : Type 0} {a : A} {n p : ℕ} → given a ≡ refused n p → ⊥
+given-not-refused e = let z : _≡_ {A = ℕ} 0 1 = cc in absurd (omega arith)
+
+-- a refusal is the same whatever would have been given
+pub refusal-same : {A B : Type 0} {n p m q : ℕ} → _≡_ {A = Answer A} (refused n p) (refused m q)
+    → _≡_ {A = Answer B} (refused n p) (refused m q)
+refusal-same {A} {B} e = ap back e
+  where
+    back : Answer A → Answer B
+    back (given a) = refused 0 0
+    back (refused n p) = refused n p
+
 -- ---- enums that say an answer
 
 -- an enum that can be had back from what it says: two that say the same are one

@@ -1,7 +1,7 @@
--- `AnsweringLaws` has the laws of building over lists, `WalkingLaws` and `PairingLaws` those of each kind, `Determined` that each contract
--- has one outcome, `Demands` what the demands say of it.
-pub mod AnsweringLaws
-pub mod WalkingLaws
+-- `SoundLaws`: lists that hold. `PairingLaws`: what the method for pair cards finds. `FromLaws`: building from lists that hold. `CardLaws`:
+-- building from a card. `Determined`: the contract has one outcome.
+pub mod SoundLaws
 pub mod PairingLaws
+pub mod FromLaws
+pub mod CardLaws
 pub mod Determined
-pub mod Demands

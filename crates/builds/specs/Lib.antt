@@ -1,4 +1,5 @@
--- `Answering` is what building over lists answers, whichever the kind of the card, `Pairing` what is answered by what the method for pair
--- cards finds.
-pub mod Answering
+-- `Building` is what build answers and writes. For inner functions alone: `From` is building from lists that hold, `Pairing` what is
+-- answered by what the method for pair cards finds.
+pub mod Building
+pub mod From
 pub mod Pairing

@@ -1,236 +1,121 @@
-// Building over lists: the tests of the lists and of the output, then the method. `walk_lists` and `pair_lists` have no `requires`: they
-// test their own input.
+// Build: from a lent card to its verdict and its sequence. The card is admitted once, into lists; then the room is tested, the method of
+// the card's kind is run over the lists, and the words that it finds are spelled. `build` has no `requires`: it tests its own input.
+mod methods;
+
 ghost use mathlib.Core.Path.{_≡_};
-ghost use Prim.Native.Nat.{_≤_};
-ghost use lib.ListN.{length};
-ghost use Rattle.answers.specs.Answer.{first, sound, saysHeld};
-ghost use Rattle.entries.specs.Fault.{pair, span};
+ghost use Prim.Native.Nat.{_+_, _≤_};
+ghost use lib.ListN.{length, take};
+ghost use Rattle.answers.specs.Answer.{given};
 ghost use Rattle.layout.specs.Bounds.{mostEntries};
-ghost use Rattle.spans.specs.Settling as spans;
-ghost use Rattle.pairs.specs.Settling as pairs;
-ghost use Rattle.tables.specs.Spans.{Spans};
-ghost use Rattle.pairing.specs.Paired.{PairCard};
-ghost use Rattle.builds.specs.Answering.{buildTests, wordsAfter, Answered, Into};
-ghost use Rattle.builds.specs.Pairing.{foundAs};
-use answers::Held;
+ghost use Rattle.spelling.specs.Spelling.{Spells};
+ghost use Rattle.walk.specs.Walked.{saysWalked};
+ghost use Rattle.builds.specs.Building.{answerOf, lettersAfter, Builds};
+ghost use Rattle.builds.specs.From.{Sound, Gives, InRoom};
 use answers::Refusal;
+use card::Admitted;
+use entries::Format;
 use layout::MOST;
-use pairing::Paired;
 use walk::Walked;
 
-// The slots of the lists of all places together: each entry may stand at so many places.
-const SLOTS: usize = entries::WIDEST as usize * MOST;
-
-// What building over lists answers: what the method comes to, or the refusal.
-pub enum WalkAnswer {
-    Walked(Walked),
+// What build answers: the length of the sequence and the placements, the placements alone, or the refusal. The sequence stands in the
+// output.
+pub enum BuildAnswer {
+    Sole(usize, u32),
+    Several(usize, u32),
+    None(u32),
+    Unsettled(u32),
     Refused(Refusal),
 }
 
-// The lists of a card of this kind, and then the room for a word of each entry.
-fn tests_hold(kind: usize, l: usize, words: &[u32], ones: &[u16], twos: &[u16], room: usize) -> Held
+// The answer by what the method comes to; the letters of the words that it found stand in the output, where it gives a build.
+fn spelled(r: Walked, l: usize, words: &[u32], out: &mut [u8]) -> BuildAnswer
+    requires { ⌜ Spells l (now words) ⌝ }
+    requires { ⌜ length (now out) + 1 ≡ length (now words) + l ⌝ }
+    ensures { λ a. ⌜ a ≡ answerOf (given (saysWalked l (now (words .entry)) r)) ⌝ }
+    ensures { λ _. ⌜ now (out .exit) ≡ lettersAfter (given (saysWalked l (now (words .entry)) r)) (now (out .entry)) ⌝ }
+{
+    let n = out.len();
+    match r {
+        Walked::Sole(k) => {
+            spelling::spell(l, words, out);
+            BuildAnswer::Sole(n, k)
+        }
+        Walked::Several(k) => {
+            spelling::spell(l, words, out);
+            BuildAnswer::Several(n, k)
+        }
+        Walked::None(k) => BuildAnswer::None(k),
+        Walked::Unsettled(k) => BuildAnswer::Unsettled(k),
+    }
+}
+
+// Builds from lists that hold, into an output of just as many bytes as a build has letters.
+fn build_from(
+    kind: usize,
+    l: usize,
+    words: &[u32],
+    ones: &[u16],
+    twos: &[u16],
+    budget: u32,
+    out: &mut [u8],
+) -> BuildAnswer
+    requires { ⌜ Sound kind l (now words) (now ones) (now twos) ⌝ }
+    requires { ⌜ length (now out) + 1 ≡ length (now words) + l ⌝ }
     ensures { λ r. ⌜
-        saysHeld r ≡ first (buildTests kind l (now (words .entry)) (now (ones .entry)) (now (twos .entry)) room) sound
+        Gives kind l (now (words .entry)) (now (ones .entry)) (now (twos .entry)) budget (now (out .entry)) r (now (out .exit))
         ⌝ }
 {
-    if let Held::Refused(r) = lists::lists_hold(kind, l, words, ones, twos) {
-        return Held::Refused(r);
-    }
-    if room < words.len() {
-        return Held::Refused(Refusal {
+    let m = words.len();
+    let mut found = [0; MOST];
+    let r = methods::find(kind, l, words, ones, twos, budget, &mut found);
+    spelled(r, l, &found[..m], out)
+}
+
+// Builds from the first m slots of lists into which a card of this format was admitted, where there is room for the letters.
+fn build_listed(
+    f: Format,
+    words: &[u32],
+    ones: &[u16],
+    twos: &[u16],
+    budget: u32,
+    out: &mut [u8],
+) -> BuildAnswer
+    requires { ⌜ (f .m ≤ length (now words)) × (f .m ≤ length (now ones)) × (f .m ≤ length (now twos)) ⌝ }
+    requires { ⌜ Sound (f .kind) (f .l) (take (f .m) (now words)) (take (f .m) (now ones)) (take (f .m) (now twos)) ⌝ }
+    ensures { λ r. ⌜
+        InRoom f (take (f .m) (now (words .entry))) (take (f .m) (now (ones .entry))) (take (f .m) (now (twos .entry))) budget
+        (now (out .entry)) r (now (out .exit))
+        ⌝ }
+{
+    let m = f.m;
+    let n = m + f.l - 1;
+    if out.len() < n {
+        return BuildAnswer::Refused(Refusal {
             number: answers::ROOM,
             place: 0,
         });
     }
-    Held::Holds
-}
-
-// Copies the words over all of an output that has their number.
-fn copy_words(out: &mut [u32], words: &[u32])
-    requires { ⌜ length (now out) ≡ length (now words) ⌝ }
-    ensures { λ _. ⌜ now (out .exit) ≡ now (words .entry) ⌝ }
-{
-    let mut k = 0;
-    while k < words.len() {
-        out[k] = words[k];
-        k += 1;
-    }
-}
-
-// The words of the build stand in the output where one is given; else it is as it was.
-fn give_words(out: &mut [u32], words: &[u32], r: Walked)
-    requires { ⌜ length (now out) ≡ length (now words) ⌝ }
-    ensures { λ _. ⌜ now (out .exit) ≡ wordsAfter r (now (words .entry)) (now (out .entry)) ⌝ }
-{
-    match r {
-        Walked::Sole(_) => copy_words(out, words),
-        Walked::Several(_) => copy_words(out, words),
-        Walked::None(_) => {}
-        Walked::Unsettled(_) => {}
-    }
-}
-
-// The walk over lists that hold, with tables of its own.
-fn walk_into(
-    l: usize,
-    words: &[u32],
-    ones: &[u16],
-    twos: &[u16],
-    budget: u32,
-    out: &mut [u32],
-) -> Walked
-    requires { ⌜ Spans l (now words) (now ones) (now twos) ⌝ }
-    requires { ⌜ (length (now words) ≤ mostEntries) × (length (now out) ≡ length (now words)) ⌝ }
-    ensures { λ r. ⌜
-        Into
-        span
-        l
-        (now (words .entry))
-        (now (ones .entry))
-        (now (twos .entry))
-        (λ es. spans.Means l es budget)
-        r
-        (now (out .entry))
-        (now (out .exit))
-        ⌝ }
-{
-    let m = words.len();
-    let mut order = [0; MOST];
-    let mut spare = [0; MOST];
-    let mut keys = [0; MOST];
-    let mut starts = [0; MOST + 1];
-    let mut slots = [0; SLOTS];
-    let mut marks = [0; MOST];
-    let mut found = [0; MOST];
-    let r = walk::walk(
-        l,
-        words,
-        ones,
-        twos,
+    build_from(
+        f.kind,
+        f.l,
+        &words[..m],
+        &ones[..m],
+        &twos[..m],
         budget,
-        &mut order,
-        &mut spare,
-        &mut keys,
-        &mut starts,
-        &mut slots,
-        &mut marks,
-        &mut found,
-    );
-    give_words(out, &found[..m], r);
-    r
+        &mut out[..n],
+    )
 }
 
-// Walks the lists of a span card. Where there is a build, the words of the alphabetically first one stand at the start of the output, whose
-// later elements are as they were; with every other answer all of it is as it was.
-pub fn walk_lists(
-    l: usize,
-    words: &[u32],
-    ones: &[u16],
-    twos: &[u16],
-    budget: u32,
-    out: &mut [u32],
-) -> WalkAnswer
-    ensures { λ r. ⌜
-        Answered
-        span
-        l
-        (now (words .entry))
-        (now (ones .entry))
-        (now (twos .entry))
-        (λ es. spans.Means l es budget)
-        (now (out .entry))
-        r
-        (now (out .exit))
-        ⌝ }
+// Builds from a card: the verdict with its numbers. Where there is a build, the letters of the alphabetically first one stand at the start
+// of the output, whose later bytes are as they were; with every other answer all of it is as it was.
+pub fn build(card: &[u8], budget: u32, out: &mut [u8]) -> BuildAnswer
+    ensures { λ r. ⌜ Builds mostEntries (now (card .entry)) budget (now (out .entry)) r (now (out .exit)) ⌝ }
 {
-    if let Held::Refused(r) = tests_hold(entries::SPAN, l, words, ones, twos, out.len()) {
-        return WalkAnswer::Refused(r);
+    let mut words = [0; MOST];
+    let mut ones = [0; MOST];
+    let mut twos = [0; MOST];
+    match card::listing::admit_into(card, &mut words, &mut ones, &mut twos) {
+        Admitted::Card(f) => build_listed(f, &words, &ones, &twos, budget, out),
+        Admitted::Refused(r) => BuildAnswer::Refused(r),
     }
-    let m = words.len();
-    WalkAnswer::Walked(walk_into(l, words, ones, twos, budget, &mut out[..m]))
-}
-
-// What the method for pair lists comes to by what it finds: sole where no choice was free. It makes no placements.
-fn found_as(p: Paired) -> Walked
-    ensures { λ r. ⌜ r ≡ foundAs (p .found) (p .choices) ⌝ }
-{
-    if p.found {
-        if p.choices == 0 {
-            return Walked::Sole(0);
-        }
-        return Walked::Several(0);
-    }
-    Walked::None(0)
-}
-
-// The method for pair lists that hold, with lists of its own to work in.
-fn pair_into(l: usize, words: &[u32], ones: &[u16], twos: &[u16], out: &mut [u32]) -> Walked
-    requires { ⌜ PairCard l (now words) (now ones) (now twos) ⌝ }
-    requires { ⌜ (length (now words) ≤ mostEntries) × (length (now out) ≡ length (now words)) ⌝ }
-    ensures { λ r. ⌜
-        Into
-        pair
-        l
-        (now (words .entry))
-        (now (ones .entry))
-        (now (twos .entry))
-        (pairs.Means l)
-        r
-        (now (out .entry))
-        (now (out .exit))
-        ⌝ }
-{
-    let m = words.len();
-    let mut at = [0; 2 * MOST];
-    let mut last = [0; MOST];
-    let mut prev = [0; 2 * MOST];
-    let mut put = [0; MOST];
-    let mut trail = [0; MOST];
-    let mut count = [0; MOST];
-    let mut found = [0; MOST];
-    let p = pairing::pair(
-        l,
-        words,
-        ones,
-        twos,
-        &mut at,
-        &mut last,
-        &mut prev,
-        &mut put,
-        &mut trail,
-        &mut count,
-        &mut found,
-    );
-    let r = found_as(p);
-    give_words(out, &found[..m], r);
-    r
-}
-
-// Builds from the lists of a pair card. Where there is a build, the words of the alphabetically first one stand at the start of the output,
-// whose later elements are as they were; with every other answer all of it is as it was.
-pub fn pair_lists(
-    l: usize,
-    words: &[u32],
-    ones: &[u16],
-    twos: &[u16],
-    out: &mut [u32],
-) -> WalkAnswer
-    ensures { λ r. ⌜
-        Answered
-        pair
-        l
-        (now (words .entry))
-        (now (ones .entry))
-        (now (twos .entry))
-        (pairs.Means l)
-        (now (out .entry))
-        r
-        (now (out .exit))
-        ⌝ }
-{
-    if let Held::Refused(r) = tests_hold(entries::PAIR, l, words, ones, twos, out.len()) {
-        return WalkAnswer::Refused(r);
-    }
-    let m = words.len();
-    WalkAnswer::Walked(pair_into(l, words, ones, twos, &mut out[..m]))
 }

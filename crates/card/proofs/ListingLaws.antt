@@ -1,5 +1,5 @@
 -- The laws of admitting into lent lists that this crate's proofs cite. No contract cites this file. Assumes nothing.
-use mathlib.Core.Path.{_≡_, sym, ap, _∙_}
+use mathlib.Core.Path.{_≡_, refl, sym, ap, _∙_}
 use mathlib.Core.Bool.{true, false, _&&_}
 use mathlib.Core.List.{List, [], _∷_, _++_}
 use Prim.Native.Nat.{ℕ, suc, _+_, _≤_, _<_}
@@ -11,9 +11,9 @@ use lib.Dec.{leb}
 use borrow.Author.Tests.{le-leb, lt-leb, leb-true}
 use Rattle.answers.specs.declared.Refusal.{Refusal}
 use Rattle.answers.specs.Numbers.{Room}
-use Rattle.answers.specs.Answer.{given, refused, sound}
+use Rattle.answers.specs.Answer.{Answer, given, refused, Sound, sound, first}
 use Rattle.answers.specs.Row.{row}
-use Rattle.answers.proofs.Laws.{first-fail, first-last, first-holds, first-passed, first-refused, first-both, first-value, first-given-any, first-refused-any}
+use Rattle.answers.proofs.Laws.{first-fail, first-last, first-holds, first-passed, first-refused, first-both, first-value, first-given-any, first-refused-any, given-not-refused, refusal-same}
 use Rattle.answers.proofs.RowLaws.{length-row, row-none, row-more}
 use Rattle.answers.proofs.Tests.{both}
 use Rattle.block.specs.Bytes.{AreBytes}
@@ -24,7 +24,7 @@ use Rattle.layout.specs.Layout.{toldBy, slotOf}
 use Rattle.card.specs.Reading.{readingOrder}
 use Rattle.card.specs.Fetching.{admission, saysAdmitted}
 use Rattle.card.specs.Listing.{hasRoom, listTests, listing, filled, Listed}
-use Rattle.card.proofs.FetchingLaws.{Admits, admission-admits}
+use Rattle.card.proofs.FetchingLaws.{Admits, order-admits, admission-given, admission-refused, admission-admits}
 
 -- ---- a list that is filled from the front
 
@@ -162,3 +162,23 @@ module _ {limit : ℕ} {card words ones twos words′ ones′ twos′ : List ℕ
 
   pub listed-twos : take (f .m) twos′ ≡ row (λ e. slotOf card e .two) 0 (f .m)
   listed-twos = ap (take (f .m)) (rw listing-said at (did .in-twos)) ∙ filled-start (λ e. slotOf card e .two) (f .m) twos
+
+-- where there is room for as many entries as a card may have, a refusal is the reader's
+pub listed-not-admitted : {limit : ℕ} {card words ones twos words′ ones′ twos′ : List ℕ} {n : Refusal}
+    → Listed limit card words ones twos (Refused n) words′ ones′ twos′
+    → limit ≤ length words → limit ≤ length ones → limit ≤ length twos
+    → first (readingOrder limit card) sound ≡ refused (n .number) (n .place)
+listed-not-admitted {limit} {card} {words} {ones} {twos} {n = n} did a b c = go (first (readingOrder limit card) sound) refl
+  where
+    go : (t : Answer Sound) → first (readingOrder limit card) sound ≡ t
+        → first (readingOrder limit card) sound ≡ refused (n .number) (n .place)
+    go (refused k p) e = e ∙ refusal-same (sym (listing-refused limit card words ones twos (admission-refused limit card e)) ∙ sym (did .answer))
+    go (given sound) e =
+        let had = order-admits e in
+        let fits : Fits (toldBy card .m) (length words) (length ones) (length twos) =
+        record {
+          in-words = omega (arith, had .head .most, a);
+          in-ones = omega (arith, had .head .most, b);
+          in-twos = omega (arith, had .head .most, c);
+        } in
+        absurd (given-not-refused (sym (listed-given did (admission-given limit card e) fits)))

@@ -33,7 +33,7 @@ module _ (limit : ℕ) (card : List ℕ) where
       (also {n = Count} (omega arith)
       (also {n = Spare} (omega arith) none))))))
 
-  order-numbered : Numbered (readingOrder limit card)
+  pub order-numbered : Numbered (readingOrder limit card)
   unfolding readingOrder
   order-numbered =
       numbered-append head-numbered

@@ -13,7 +13,7 @@ use Rattle.pairs.specs.Chosen.{NoBuild}
 use Rattle.choosing.specs.Choosing.{Joined, Tries, Weighed, Drops, DropsAll, Chooses}
 use Rattle.following.specs.Common.{Common}
 use Rattle.pairs.proofs.Extends.{extends, over, over-agrees, filled, was-possible}
-use Rattle.following.proofs.Forcing.{stands-other, otherThan}
+use Rattle.following.proofs.ExclusionLaws.{stands-other, otherThan}
 use Rattle.following.proofs.CommonLaws.{common-not, common-first, common-same, common-many}
 use Rattle.pairs.proofs.Places.{OnlyNext, one-more, seen-all, tried-first, tried-fails, tried-same, tried-larger, tried-smaller}
 use Rattle.pairs.proofs.Places.{chosen-same, chosen-tried, tried-there, cleared-none, refuted-placed}

@@ -1,18 +1,15 @@
 -- Each exported contract determines the outcome: two results, with what a lent output holds afterwards, that both meet it at the same input
 -- are equal. `Post` is the contract as it is read from the source. Assumes nothing.
 use mathlib.Core.Path.{_≡_, sym, ap, _∙_}
-use mathlib.Core.List.{List}
-use Prim.Native.Nat.{ℕ}
 use contract.Lifetimes.{Lfts}
 use denote.Ref.{now}
 use denote.Triple.Clauses.{AtExit}
 use borrow.Fn.Kinds.{Dens, resT, endedOf}
-use Rattle.spans.proofs.Meant as spans
-use Rattle.pairs.proofs.Meant as pair-lists
-use Rattle.builds.specs.declared.WalkAnswer.{WalkAnswer}
-use Rattle.builds.proofs.Determined.{answered-one}
-use Rattle.firmware.specs.declared.walking.WalkAnswer as walking
-use Rattle.firmware.specs.Flat.{walkAnswer, Told}
+use Rattle.answers.specs.Answer.{Answer}
+use Rattle.sequence.specs.Verdict.{Outcome}
+use Rattle.builds.specs.Building.{lettersAfter}
+use Rattle.builds.proofs.Determined.{says-one}
+use Rattle.firmware.specs.Building.{buildAnswer}
 use Rattle.firmware.proofs.belfrymist_admit.Kinds as admit
 use Rattle.firmware.proofs.belfrymist_admit.Reads as admit-reads
 use Rattle.firmware.proofs.belfrymist_entry.Kinds as entry
@@ -25,10 +22,8 @@ use Rattle.firmware.proofs.belfrymist_fetch.Kinds as fetch
 use Rattle.firmware.proofs.belfrymist_fetch.Reads as fetch-reads
 use Rattle.firmware.proofs.writing.belfrymist_write.Kinds as write
 use Rattle.firmware.proofs.writing.belfrymist_write.Reads as write-reads
-use Rattle.firmware.proofs.walking.belfrymist_walk.Kinds as walk
-use Rattle.firmware.proofs.walking.belfrymist_walk.Reads as walk-reads
-use Rattle.firmware.proofs.pair_lists.belfrymist_pairs.Kinds as pairs
-use Rattle.firmware.proofs.pair_lists.belfrymist_pairs.Reads as pairs-reads
+use Rattle.firmware.proofs.building.belfrymist_build.Kinds as build
+use Rattle.firmware.proofs.building.belfrymist_build.Reads as build-reads
 
 module _ (κs : Lfts 1) where
   -- what admitting answers
@@ -61,22 +56,11 @@ pub write-one : (κs : Lfts 4) (a : Dens κs write.ps) (r r′ : resT write.r κ
     → write-reads.Post κs a r e → write-reads.Post κs a r′ e′ → (r ≡ r′) × (now (e .1 .1 .1 .1 .1 .0) ≡ now (e′ .1 .1 .1 .1 .1 .0))
 write-one κs a r r′ e e′ p q = (p .0 ∙ sym (q .0), p .1 ∙ sym (q .1))
 
--- what building over lists answers, and the output afterwards, where that is one outcome of `Answers`
-told-one : {Answers : WalkAnswer → List ℕ → Type 0} {result result′ : walking.WalkAnswer} {after after′ : List ℕ}
-    → ((r r′ : WalkAnswer) → Answers r after → Answers r′ after′ → (r ≡ r′) × (after ≡ after′))
-    → Told Answers result after
-    → Told Answers result′ after′
-    → (result ≡ result′) × (after ≡ after′)
-told-one single p q =
-    let one = single (p .answer) (q .answer) (p .answered) (q .answered) in
-    (p .told ∙ ap walkAnswer (one .0) ∙ sym (q .told), one .1)
-
--- what walking lists answers
-pub walk-one : (κs : Lfts 4) (a : Dens κs walk.ps) (r r′ : resT walk.r κs .Denot) (e e′ : AtExit (endedOf 4 walk.ps walk.r) κs)
-    → walk-reads.Post κs a r e → walk-reads.Post κs a r′ e′ → (r ≡ r′) × (now (e .1 .1 .1 .1 .1 .0) ≡ now (e′ .1 .1 .1 .1 .1 .0))
-walk-one κs a r r′ e e′ p q = told-one (λ s s′. answered-one (λ es o o′. spans.means-one)) p q
-
--- what building from pair lists answers
-pub pairs-one : (κs : Lfts 4) (a : Dens κs pairs.ps) (r r′ : resT pairs.r κs .Denot) (e e′ : AtExit (endedOf 4 pairs.ps pairs.r) κs)
-    → pairs-reads.Post κs a r e → pairs-reads.Post κs a r′ e′ → (r ≡ r′) × (now (e .1 .1 .1 .1 .0) ≡ now (e′ .1 .1 .1 .1 .0))
-pairs-one κs a r r′ e e′ p q = told-one (λ s s′. answered-one (λ es o o′. pair-lists.means-one)) p q
+-- what build answers, and the output afterwards
+pub build-one : (κs : Lfts 2) (a : Dens κs build.ps) (r r′ : resT build.r κs .Denot) (e e′ : AtExit (endedOf 2 build.ps build.r) κs)
+    → build-reads.Post κs a r e → build-reads.Post κs a r′ e′ → (r ≡ r′) × (now (e .1 .1 .0) ≡ now (e′ .1 .1 .0))
+build-one κs a r r′ e e′ p q =
+    let same = says-one (p .says) (q .says) in (
+      p .answer ∙ ap buildAnswer same ∙ sym (q .answer),
+      p .output ∙ ap (λ (x : Answer Outcome). lettersAfter x (now (a .1 .1 .0))) same ∙ sym (q .output),
+    )

@@ -8,6 +8,11 @@ use Rattle.block.specs.Block.{blockBytes, fetchTests, fetchOf}
 use Rattle.block.proofs.Laws.{holds-there, fetch-none, fetch-some, part-none, part-some, part-length}
 use Rattle.entries.specs.declared.Entry.{Entry}
 use Rattle.card.specs.Fetching.{more}
+use Rattle.sequence.specs.Verdict.{sole, several, noBuild, Outcome, settled, unsettled}
+use Rattle.builds.specs.Building.{answerOf, Builds}
+use Rattle.builds.specs.declared.BuildAnswer as builds
+use Rattle.firmware.specs.declared.building.BuildAnswer.{BuildAnswer}
+use Rattle.firmware.specs.Building.{buildAnswer, flatOf, Told}
 use Rattle.firmware.specs.declared.Shape.{Shape}
 use Rattle.firmware.specs.declared.EntryAnswer.{EntryAnswer}
 use Rattle.firmware.specs.declared.StepAnswer.{StepAnswer}
@@ -68,3 +73,24 @@ module _ (card : List ℕ) (k : ℕ) {part : List ℕ} (e : part ≡ fetchOf car
     pub part-flat :
         _≡_ {A = PartAnswer} (record { at = blockBytes * k; length = length part }) (partAnswer k (first (fetchTests card k) sound))
     part-flat = (λ i. record { at = blockBytes * k; length = part-length card k e some i }) ∙ ap (partAnswer k) (sym holds)
+
+-- ---- build
+
+flat-same : (a : Answer Outcome) → flatOf (answerOf a) ≡ buildAnswer a
+flat-same (given (settled (sole s) n)) = refl
+flat-same (given (settled (several s) n)) = refl
+flat-same (given (settled noBuild n)) = refl
+flat-same (given (unsettled n)) = refl
+flat-same (refused n p) = refl
+
+-- the struct of what build answers
+pub build-flat : {limit budget : ℕ} {card before after : List ℕ} {r : builds.BuildAnswer} {result : BuildAnswer}
+    → Builds limit card budget before r after
+    → result ≡ flatOf r
+    → Told limit card budget before result after
+build-flat b e = record {
+  said = b .said;
+  says = b .says;
+  answer = e ∙ ap flatOf (b .answer) ∙ flat-same (b .said);
+  output = b .output;
+}

@@ -1,28 +1,24 @@
 -- In every struct that has a number, 0 says that nothing was refused: a refusal's number is above 0. Assumes nothing.
-use mathlib.Core.Path.{_≡_, refl}
+use mathlib.Core.Path.{_≡_, refl, sym, _∙_}
 use mathlib.Core.List.{List}
 use Prim.Native.Nat.{ℕ, _<_}
 use native.Mathlib.Omega.{arith}
 use lib.ListN.{length}
 use Rattle.answers.specs.Numbers.{Room}
-use Rattle.answers.specs.Answer.{given, refused, sound, first}
+use Rattle.answers.specs.Answer.{Answer, given, refused, sound, first}
+use Rattle.answers.proofs.Laws.{given-not-refused}
 use Rattle.answers.proofs.Numbered.{Numbered, none, also, numbered-append, numbered-refused}
 use Rattle.block.specs.Block.{fetchTests}
 use Rattle.block.proofs.Laws.{fetch-numbered}
 use Rattle.card.specs.Fetching.{admission, entryFetch, stepping}
-use Rattle.card.proofs.RefusalNumbers.{admission-number, entry-number, step-number}
+use Rattle.card.proofs.RefusalNumbers.{order-numbered, admission-number, entry-number, step-number}
 use Rattle.writer.specs.Writing.{writing}
 use Rattle.writer.proofs.RefusalNumbers.{writing-number}
-use Rattle.entries.specs.declared.Slot.{Slot}
-use Rattle.layout.specs.Bounds.{mostEntries}
-use Rattle.lists.proofs.Laws.{lists-numbered}
-use Rattle.sequence.specs.Verdict.{Outcome}
-use Rattle.walk.specs.declared.Walked.{Walked}
-use Rattle.walk.specs.declared.Walked.the-variants.{Sole, Several, None, Unsettled}
-use Rattle.builds.specs.Answering.{buildTests, Answered, walked, refuses}
-use Rattle.builds.specs.declared.WalkAnswer as walking
-use Rattle.firmware.specs.declared.walking.WalkAnswer.{WalkAnswer}
-use Rattle.firmware.specs.Flat.{admitAnswer, entryAnswer, stepAnswer, heldAnswer, writeAnswer, walkedAnswer, walkAnswer, Told}
+use Rattle.sequence.specs.Verdict.{sole, several, noBuild, Outcome, settled, unsettled}
+use Rattle.builds.specs.Building.{buildTests, Says, tells, refuses}
+use Rattle.firmware.specs.declared.building.BuildAnswer.{BuildAnswer}
+use Rattle.firmware.specs.Flat.{admitAnswer, entryAnswer, stepAnswer, heldAnswer, writeAnswer}
+use Rattle.firmware.specs.Building.{buildAnswer, Told}
 
 module _ (limit : ℕ) (card : List ℕ) {n p : ℕ} where
   pub admit-tells : admission limit card ≡ refused n p → 0 < admitAnswer (admission limit card) .number
@@ -43,31 +39,29 @@ pub write-tells : (limit kind l : ℕ) (words ones twos : List ℕ) (room : ℕ)
     → 0 < writeAnswer (writing limit kind l words ones twos room) .number
 write-tells limit kind l words ones twos room e = rw e (writing-number limit kind l words ones twos room e)
 
--- ---- building over lists, whose contract is a relation: both ways
+-- ---- build, whose contract is a relation: both ways
 
-build-numbered : (kind l : ℕ) (words ones twos : List ℕ) (room : ℕ) → Numbered (buildTests kind l words ones twos room)
+build-numbered : (limit : ℕ) (card : List ℕ) (room : ℕ) → Numbered (buildTests limit card room)
 unfolding buildTests
-build-numbered kind l words ones twos room =
-    numbered-append (lists-numbered mostEntries kind l words ones twos) (also {n = Room} (omega arith) none)
+build-numbered limit card room = numbered-append (order-numbered limit card) (also {n = Room} (omega arith) none)
 
-walked-zero : (w : Walked) → walkedAnswer w .number ≡ 0
-walked-zero (Sole n) = refl
-walked-zero (Several n) = refl
-walked-zero (None n) = refl
-walked-zero (Unsettled n) = refl
-
-module _ {kind l : ℕ} {words ones twos before after : List ℕ} {True : List Slot → Outcome → Type 0} {result : WalkAnswer}
-    (w : Told (Answered kind l words ones twos True before) result after) where
-  pub build-tells : {n p : ℕ} → first (buildTests kind l words ones twos (length before)) sound ≡ refused n p → 0 < result .number
-  build-tells e = rw (w .told) (go (w .answered))
+module _ {limit budget : ℕ} {card before after : List ℕ} {result : BuildAnswer} (w : Told limit card budget before result after) where
+  pub build-tells : {n p : ℕ} → first (buildTests limit card (length before)) sound ≡ refused n p → 0 < result .number
+  build-tells e = rw (w .answer) (go (w .says))
     where
-      go : {r : walking.WalkAnswer} → Answered kind l words ones twos True before r after → 0 < walkAnswer r .number
-      go (walked hold _ _) = let z : _≡_ {A = ℕ} 0 1 = cc in absurd (omega arith)
-      go (refuses fails _) = numbered-refused (build-numbered kind l words ones twos (length before)) sound fails
+      go : {a : Answer Outcome} → Says limit card budget (length before) a → 0 < buildAnswer a .number
+      go (tells hold _) = absurd (given-not-refused (sym hold ∙ e))
+      go (refuses fails) = numbered-refused (build-numbered limit card (length before)) sound fails
 
-  pub build-zero : first (buildTests kind l words ones twos (length before)) sound ≡ given sound → result .number ≡ 0
-  build-zero e = rw (w .told) (go (w .answered))
+  pub build-zero : first (buildTests limit card (length before)) sound ≡ given sound → result .number ≡ 0
+  build-zero e = rw (w .answer) (go (w .says))
     where
-      go : {r : walking.WalkAnswer} → Answered kind l words ones twos True before r after → walkAnswer r .number ≡ 0
-      go (walked {r = w′} _ _ _) = walked-zero w′
-      go (refuses fails _) = let z : _≡_ {A = ℕ} 0 1 = cc in absurd (omega arith)
+      zero-in : (o : Outcome) → buildAnswer (given o) .number ≡ 0
+      zero-in (settled (sole s) n) = refl
+      zero-in (settled (several s) n) = refl
+      zero-in (settled noBuild n) = refl
+      zero-in (unsettled n) = refl
+
+      go : {a : Answer Outcome} → Says limit card budget (length before) a → buildAnswer a .number ≡ 0
+      go (tells {o} hold _) = zero-in o
+      go (refuses fails) = absurd (given-not-refused (sym e ∙ fails))

@@ -7,14 +7,7 @@
 --   heldAnswer r       == the companion of a fetch
 --   partAnswer k r     == fetching block k: where in the card it starts, and its bytes
 --   writeAnswer r      == writing: the card's length
---   walkedAnswer w     == building that nothing refused: its verdict and its placements
---   walkAnswer r       == building over lists
---   Told Answers result after
---                      == the struct `result`, and every element of the output afterwards, are those of what building over lists answers,
---                         which is what `Answers` says
--- Assumes nothing.
-use mathlib.Core.Path.{_≡_}
-use mathlib.Core.List.{List}
+-- Build has its own file, `Building`. Assumes nothing.
 use Prim.Native.Nat.{ℕ, _*_}
 use Rattle.answers.specs.Answer.{Answer, given, refused, Sound, sound}
 use Rattle.block.specs.Block.{blockBytes}
@@ -23,10 +16,6 @@ use Rattle.entries.specs.declared.Entry.{Entry}
 use Rattle.entries.specs.declared.Places.{Places}
 use Rattle.entries.specs.declared.Places.the-variants.{One, Two, Span}
 use Rattle.card.specs.Fetching.{Next, more, end}
-use Rattle.walk.specs.declared.Walked.{Walked}
-use Rattle.walk.specs.declared.Walked.the-variants.{Sole, Several, None, Unsettled}
-use Rattle.builds.specs.declared.WalkAnswer as walking
-use Rattle.builds.specs.declared.WalkAnswer.the-variants as is
 use Rattle.firmware.specs.declared.Shape.{Shape}
 use Rattle.firmware.specs.declared.AdmitAnswer.{AdmitAnswer}
 use Rattle.firmware.specs.declared.EntryAnswer.{EntryAnswer}
@@ -34,7 +23,6 @@ use Rattle.firmware.specs.declared.StepAnswer.{StepAnswer}
 use Rattle.firmware.specs.declared.HeldAnswer.{HeldAnswer}
 use Rattle.firmware.specs.declared.PartAnswer.{PartAnswer}
 use Rattle.firmware.specs.declared.writing.WriteAnswer.{WriteAnswer}
-use Rattle.firmware.specs.declared.walking.WalkAnswer.{WalkAnswer}
 
 -- "one place, two places, or a span"
 abbrev pub shapeOf : Places → Shape
@@ -78,22 +66,3 @@ partAnswer k (refused n p) = record { at = 0; length = 0 }
 abbrev pub writeAnswer : Answer ℕ → WriteAnswer
 writeAnswer (given n) = record { number = 0; place = 0; length = n }
 writeAnswer (refused n p) = record { number = n; place = p; length = 0 }
-
--- "Sole, Several, None or Unsettled", each with the placements
-abbrev pub settledAnswer : ℕ → ℕ → WalkAnswer
-settledAnswer verdict n = record { number = 0; place = 0; verdict = verdict; placements = n }
-
-abbrev pub walkedAnswer : Walked → WalkAnswer
-walkedAnswer (Sole n) = settledAnswer 1 n
-walkedAnswer (Several n) = settledAnswer 2 n
-walkedAnswer (None n) = settledAnswer 3 n
-walkedAnswer (Unsettled n) = settledAnswer 4 n
-
-abbrev pub walkAnswer : walking.WalkAnswer → WalkAnswer
-walkAnswer (is.Walked w) = walkedAnswer w
-walkAnswer (is.Refused r) = record { number = r .number; place = r .place; verdict = 0; placements = 0 }
-
-pub record Told (Answers : walking.WalkAnswer → List ℕ → Type 0) (result : WalkAnswer) (after : List ℕ) : Type 0 where
-  pub answer : walking.WalkAnswer
-  pub answered : Answers answer after
-  pub told : result ≡ walkAnswer answer

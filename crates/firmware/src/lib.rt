@@ -1,8 +1,7 @@
-// The boundary to C: the operations of the block layer, of the card's reader, of its writer and of building over lists as exported
+// The boundary to C: the operations of the block layer, of the card's reader, of its writer and build as exported
 // functions. Numbers and slices go in, and a struct of numbers comes back. No function has a `requires`: each operation tests its own
 // input. The names that C sees begin with the project's.
-pub mod pair_lists;
-pub mod walking;
+pub mod building;
 pub mod writing;
 
 ghost use mathlib.Core.Path.{_≡_};

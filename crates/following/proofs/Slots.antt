@@ -8,7 +8,8 @@ use lib.ListN.{length}
 use Rattle.pairs.specs.Arranged.{Stands}
 use Rattle.pairs.specs.Chosen.{Seen, Possible}
 use Rattle.following.specs.Following.{Card, Links, of, pairsOf}
-use Rattle.following.proofs.Forcing.{seen-next, slot-of}
+use Rattle.following.proofs.ExclusionLaws.{seen-next}
+use Rattle.following.proofs.PlaceLaws.{slot-of}
 
 -- slot b − 1 is the next of the list of q; 0 is its end
 pub record Listing (at : List ℕ) (q b : ℕ) : Type 0 where

@@ -21,6 +21,8 @@ const LEAST: usize = 1;
 pub const MOST: usize = 504;
 // The entries of a full block.
 const PER_BLOCK: usize = 63;
+// The bytes of the longest card.
+pub const LONGEST: usize = block::BLOCK * (1 + (MOST + (PER_BLOCK - 1)) / PER_BLOCK);
 
 // Whether there is such a kind of card.
 pub fn is_kind(kind: usize) -> bool

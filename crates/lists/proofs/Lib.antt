@@ -2,4 +2,5 @@
 -- pair or span; `Determined` says that each contract has one outcome.
 pub mod Laws
 pub mod KindLaws
+pub mod AdmittedLaws
 pub mod Determined

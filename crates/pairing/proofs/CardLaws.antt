@@ -24,7 +24,8 @@ use Rattle.pairs.specs.Settling.{pairEntries}
 use Rattle.pairs.proofs.Reindexed.{in-index}
 use Rattle.pairs.proofs.Told.{found-worded, found-tells, none-tells}
 use Rattle.following.specs.Following.{Card, pairsOf}
-use Rattle.following.proofs.Forcing.{inside-of, slot-of}
+use Rattle.following.proofs.ExclusionLaws.{inside-of}
+use Rattle.following.proofs.PlaceLaws.{slot-of}
 use Rattle.pairing.specs.Built.{Builds}
 use Rattle.pairing.specs.Paired.{PairCard, secondOf, PlacesFrom, Gives}
 use Rattle.pairing.proofs.PlacesLaws.{allowed-two, two-allowed}

@@ -1,5 +1,6 @@
 -- The laws of this crate's definitions, cited by the crates above.
 -- `TestLaws`: tests that hold.
+-- `FillingLaws`: two numbers side by side, and a loop that stores each element of a list.
 -- `ListLaws`: members of lists, taking one out, rising order, pairing off.
 -- `ReorderedLaws`: lists in another order, and what a map does to them.
 -- `OrderLaws`: the alphabetical order.
@@ -12,6 +13,7 @@
 -- `VerdictOf`: the verdict on a list of sequences, and on all arrangements, by computation.
 -- `Tables`: the tables of 01 from the definitions, through one statement over the list.
 pub mod TestLaws
+pub mod FillingLaws
 pub mod ListLaws
 pub mod ReorderedLaws
 pub mod OrderLaws

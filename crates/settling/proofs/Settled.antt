@@ -12,7 +12,7 @@ use Rattle.following.specs.Following.{Trail, Follows, Undone, Attempt, of}
 use Rattle.pairs.specs.Chosen.{NoBuild}
 use Rattle.settling.specs.Settling.{Settles, SettlesAll}
 use Rattle.pairs.proofs.Extends.{neither, all-placed}
-use Rattle.following.proofs.Forcing.{attempted}
+use Rattle.following.proofs.UndoLaws.{attempted}
 
 module _ {c : Pairs} {put trail : List ℕ} {n e : ℕ} (t : Trail (c .m) put trail n) (k : Closed c (of put)) where
   -- it had one

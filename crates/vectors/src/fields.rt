@@ -4,10 +4,12 @@ ghost use lib.ListN.{length};
 ghost use Rattle.vectors.specs.Lists.{slots, wordBytes, placeBytes};
 use libc::STDIN_FILENO;
 
-// The most slots of a list, and what a slot of lent words holds before the call.
+// The most slots of a list, and what a slot of lent words and a byte of an output hold before the call.
 pub const SLOTS: usize = 600;
 
 pub const OLD_WORD: u32 = 305419896;
+
+pub const OLD_BYTE: u8 = 165;
 
 // The bytes of a word and of a place.
 const WORD: usize = 4;

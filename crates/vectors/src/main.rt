@@ -14,65 +14,31 @@
 //                                       `written LENGTH HASH`, with the hash of the whole output afterwards
 //     R room       admit into lists of 600 slots, and write the card of their first m slots again, into such an output
 //                                       the line of W
-//     S l a b c room budget words ones twos
-//                  walk over span lists like those of W (the budget in four bytes), with an output of `room` words, each of which holds
-//                  305,419,896 before the call
-//                                       `sole PLACEMENTS HASH`, or `several`, `none` or `unsettled` in its place
-//     P l a b c room words ones twos
-//                  build from pair lists like those of W, with an output like that of S
-//                                       the line of S, with placements 0
-// A call that refuses prints `refused N P`, for L with the three hashes after it, for W, R, S and P with the output's. PLACES is `one P`,
+//     G kind l m words ones twos
+//                  sets the card to the one that the writer makes of these lists of m slots each (m in two bytes)
+//     D budget room
+//                  build from the card (the budget in four bytes) into an output of `room` bytes, each of which holds 165 before the call
+//                                       `sole LENGTH PLACEMENTS HASH` or `several`, or `none PLACEMENTS HASH` or `unsettled`
+// A call that refuses prints `refused N P`, for L with the three hashes after it, for W, R and D with the output's. PLACES is `one P`,
 // `two P Q` or `span F G`. i, `at`, k, kind and l have eight bytes; a, b, c and `room` have two, and are at most 600, but `room` of W and
 // R at most 6,400. A record that is none of these, or is cut, ends the run with the line `bad record`.
 mod building;
+mod cards;
 mod fields;
 mod hashes;
 mod lines;
 mod records;
 mod writing;
 
-ghost use mathlib.Core.Path.{_≡_};
 ghost use Prim.Native.Nat.{_≤_};
 ghost use lib.ListN.{length};
-use fields::Field;
+use cards::Turn;
 use fields::Tag;
-use lines::Line;
 
 // The most bytes of a card.
 const MOST: usize = 6144;
 // A proved loop has to end, and nothing says that standard input does: no run has as many records.
 const TURNS: u32 = 4000000;
-
-// What a record leaves: how many bytes the card has, and whether there is more to read.
-struct Turn {
-    n: usize,
-    more: bool,
-}
-
-// A record that is not one ends the run.
-fn bad() -> Turn
-    ensures { λ r. ⌜ r .n ≡ 0 ⌝ }
-{
-    Line::new().text(b"bad record").print();
-    Turn { n: 0, more: false }
-}
-
-// Sets the card to the bytes that follow.
-fn set_card(card: &mut [u8]) -> Turn
-    ensures { λ r. ⌜ r .n ≤ length (now (card .exit)) ⌝ }
-{
-    let Field::Is(n) = fields::four() else {
-        return bad();
-    };
-    if card.len() < n {
-        return bad();
-    }
-    let got = io::read_full(libc::STDIN_FILENO, &mut card[..n]);
-    if got < n {
-        return bad();
-    }
-    Turn { n, more: true }
-}
 
 // Runs the next record on the card, which is the first n bytes of its buffer.
 fn run(card: &mut [u8], n: usize) -> Turn
@@ -83,12 +49,15 @@ fn run(card: &mut [u8], n: usize) -> Turn
         return Turn { n: 0, more: false };
     };
     if tag == b'C' {
-        return set_card(card);
+        return cards::set_card(card);
+    }
+    if tag == b'G' {
+        return cards::write_card(card);
     }
     if records::answer(tag, &card[..n]) {
         Turn { n, more: true }
     } else {
-        bad()
+        cards::bad()
     }
 }
 

@@ -160,8 +160,7 @@ pub fn answer(tag: u8, card: &[u8]) -> bool {
         b'L' => lists(card),
         b'W' => writing::of_lists(),
         b'R' => writing::again(card),
-        b'S' => building::of_spans(),
-        b'P' => building::of_pairs(),
+        b'D' => building::of_card(card),
         _ => numbered(tag, card),
     }
 }

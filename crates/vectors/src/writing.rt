@@ -5,6 +5,7 @@ ghost use Rattle.vectors.specs.Line.{lineBytes, digits};
 ghost use Rattle.vectors.specs.Lists.{slots};
 use crate::fields;
 use crate::fields::Field;
+use crate::fields::OLD_BYTE;
 use crate::fields::SLOTS;
 use crate::fields::Sized;
 use crate::fields::Sizes;
@@ -14,10 +15,8 @@ use card::Admitted;
 use entries::Format;
 use writer::Written;
 
-// The most bytes of an output, and what stands in each before the call.
+// The most bytes of an output.
 const ROOM: usize = 6400;
-
-const OLD_BYTE: u8 = 165;
 
 // What writing answers: the card's length, or the refusal.
 fn written(w: Written) -> Line

@@ -21,7 +21,7 @@ use Rattle.spans.specs.Walk.{isCandidate}
 use Rattle.spans.proofs.Tried.{Candidate, candidate-of, of-candidate}
 use Rattle.spans.proofs.Indices.{without, without-keep, choiceIn, numbers-in, in-numbers}
 use Rattle.tables.specs.Prepared.{Prepared, Sooner, listAt}
-use Rattle.tables.proofs.PartLaws.{same-or-not}
+use Rattle.sequence.proofs.FillingLaws.{same-or-not}
 use Rattle.walk.specs.Steps.{isLeft, spanAt, agrees, able, isDue, opened}
 use Rattle.walk.specs.Going.{Wants, at-first, later-on}
 use Rattle.walk.proofs.KeepLaws.{same-test, never, keep-same, keep-none, keep-both}

@@ -23,7 +23,7 @@ use Rattle.spans.proofs.Meant.{outcome-means}
 use Rattle.spans.proofs.Runs.{Keeps, keeps-one, keeps-two, run-answers, run-worded}
 use Rattle.tables.specs.Spans.{Spans}
 use Rattle.tables.specs.Prepared.{Prepared}
-use Rattle.tables.proofs.PartLaws.{Filling, filling-all}
+use Rattle.sequence.proofs.FillingLaws.{Filling, filling-all}
 use Rattle.walk.specs.Steps.{isLeft, spanAt, left, Unmarked, walkedAt}
 use Rattle.walk.specs.Going.{Shows, none-yet, one-build, two-builds, stopped, Ready, at-first, Went}
 use Rattle.walk.specs.Walked.{Walks}

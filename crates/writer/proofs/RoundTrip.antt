@@ -32,11 +32,12 @@ use Rattle.card.proofs.ListingLaws.{Fits, listed-given, listed-admitted, listed
 use Rattle.card.proofs.Steps.{Lists, lists-all}
 use Rattle.lists.specs.Lists.{formatFor}
 use Rattle.lists.proofs.Laws.{Accepted}
+use Rattle.lists.proofs.AdmittedLaws.{itsWords, itsOnes, itsTwos, length-its, admitted-size, its-accepted}
 use Rattle.writer.specs.declared.Written.{Written}
 use Rattle.writer.specs.Writing.{saysWritten, Writes}
 use Rattle.writer.proofs.WritingLaws.{wrote-accepted, wrote-room, wrote-size, wrote-bytes, wrote-card, wrote-nothing}
 use Rattle.writer.proofs.ReadBackLaws.{accepted-order, written-entry-is, written-numbers}
-use Rattle.writer.proofs.AgainLaws.{itsWords, itsOnes, itsTwos, length-its, admitted-size, again-accepted, again-card}
+use Rattle.writer.proofs.AgainLaws.{again-card}
 
 -- a card that gives back this kind, l and m, and each of these entries, by fetch and by the head
 pub record GivesBack (limit kind l : ℕ) (words ones twos card : List ℕ) : Type 0 where
@@ -124,8 +125,8 @@ module _ {limit : ℕ} {card a b c a′ b′ c′ : List ℕ} {q : Admitted} {f 
 
   pub written-again : length card ≤ length before → (saysWritten r ≡ given (length card)) × (after ≡ card ++ drop (length card) before)
   written-again room =
-      let wrote = wrote-card own-lists (again-accepted limit card admitted) (rw own-size room) in
+      let wrote = wrote-card own-lists (its-accepted limit card admitted) (rw own-size room) in
       rw (own-size, again-card limit card admitted (listed .of-bytes)) at wrote
 
   pub again-no-room : length before < length card → (saysWritten r ≡ refused Room 0) × (after ≡ before)
-  again-no-room short = wrote-nothing own-lists (again-accepted limit card admitted) (rw own-size short)
+  again-no-room short = wrote-nothing own-lists (its-accepted limit card admitted) (rw own-size short)

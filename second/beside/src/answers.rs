@@ -89,17 +89,18 @@ pub struct WriteAnswer {
     pub length: usize,
 }
 
-/// What the walk and the verdict on pair lists answer; all fields but number and place are 0 where
-/// it is refused.
+/// What a build answers; all fields but number and place are 0 where it is refused.
 #[repr(C)]
 #[derive(Clone, Copy, Debug, Default, PartialEq, Eq)]
-pub struct WalkAnswer {
+pub struct BuildAnswer {
     /// The refusal's number, or 0.
     pub number: usize,
     /// The refusal's place, or 0.
     pub place: usize,
     /// 1 for Sole, 2 for Several, 3 for None, 4 for Unsettled.
     pub verdict: usize,
-    /// The placements up to the verdict, or the budget where it is Unsettled; 0 for pair lists.
+    /// The letters at the start of the output for Sole and Several, else 0.
+    pub length: usize,
+    /// The placements up to the verdict, or the budget where it is Unsettled; 0 on a pair card.
     pub placements: usize,
 }

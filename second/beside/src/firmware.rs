@@ -1,11 +1,11 @@
 //! The compiled library, called through C.
 
-use crate::answers::{Admitted, EntryAnswer, Held, Part, StepAnswer, WalkAnswer, WriteAnswer};
+use crate::answers::{Admitted, BuildAnswer, EntryAnswer, Held, Part, StepAnswer, WriteAnswer};
 
 /// The functions as C declares them.
 #[cfg(target_arch = "x86_64")]
 mod exported {
-    use super::{Admitted, EntryAnswer, Held, Part, StepAnswer, WalkAnswer, WriteAnswer};
+    use super::{Admitted, BuildAnswer, EntryAnswer, Held, Part, StepAnswer, WriteAnswer};
 
     extern "C" {
         pub fn belfrymist_admit(card: *const u8, len: usize) -> Admitted;
@@ -25,29 +25,13 @@ mod exported {
             out: *mut u8,
             out_len: usize,
         ) -> WriteAnswer;
-        pub fn belfrymist_walk(
-            l: usize,
-            words: *const u32,
-            words_len: usize,
-            ones: *const u16,
-            ones_len: usize,
-            twos: *const u16,
-            twos_len: usize,
+        pub fn belfrymist_build(
+            card: *const u8,
+            card_len: usize,
             budget: u32,
-            out: *mut u32,
+            out: *mut u8,
             out_len: usize,
-        ) -> WalkAnswer;
-        pub fn belfrymist_pairs(
-            l: usize,
-            words: *const u32,
-            words_len: usize,
-            ones: *const u16,
-            ones_len: usize,
-            twos: *const u16,
-            twos_len: usize,
-            out: *mut u32,
-            out_len: usize,
-        ) -> WalkAnswer;
+        ) -> BuildAnswer;
     }
 }
 
@@ -57,10 +41,10 @@ mod exported {
 /// the caller hands over the place of the answer as a first argument.
 #[cfg(not(target_arch = "x86_64"))]
 mod exported {
-    use super::{Admitted, EntryAnswer, Held, Part, StepAnswer, WalkAnswer, WriteAnswer};
+    use super::{Admitted, BuildAnswer, EntryAnswer, Held, Part, StepAnswer, WriteAnswer};
 
     mod placed {
-        use super::{Admitted, EntryAnswer, StepAnswer, WalkAnswer, WriteAnswer};
+        use super::{Admitted, BuildAnswer, EntryAnswer, StepAnswer, WriteAnswer};
 
         extern "C" {
             pub fn belfrymist_admit(answer: *mut Admitted, card: *const u8, len: usize);
@@ -84,29 +68,12 @@ mod exported {
                 out: *mut u8,
                 out_len: usize,
             );
-            pub fn belfrymist_walk(
-                answer: *mut WalkAnswer,
-                l: usize,
-                words: *const u32,
-                words_len: usize,
-                ones: *const u16,
-                ones_len: usize,
-                twos: *const u16,
-                twos_len: usize,
+            pub fn belfrymist_build(
+                answer: *mut BuildAnswer,
+                card: *const u8,
+                card_len: usize,
                 budget: u32,
-                out: *mut u32,
-                out_len: usize,
-            );
-            pub fn belfrymist_pairs(
-                answer: *mut WalkAnswer,
-                l: usize,
-                words: *const u32,
-                words_len: usize,
-                ones: *const u16,
-                ones_len: usize,
-                twos: *const u16,
-                twos_len: usize,
-                out: *mut u32,
+                out: *mut u8,
                 out_len: usize,
             );
         }
@@ -166,70 +133,22 @@ mod exported {
         answer
     }
 
-    // The arguments are those of the function as C declares it.
-    #[allow(clippy::too_many_arguments)]
-    pub unsafe fn belfrymist_walk(
-        l: usize,
-        words: *const u32,
-        words_len: usize,
-        ones: *const u16,
-        ones_len: usize,
-        twos: *const u16,
-        twos_len: usize,
+    pub unsafe fn belfrymist_build(
+        card: *const u8,
+        card_len: usize,
         budget: u32,
-        out: *mut u32,
+        out: *mut u8,
         out_len: usize,
-    ) -> WalkAnswer {
-        let mut answer = WalkAnswer::default();
-        placed::belfrymist_walk(
-            &mut answer,
-            l,
-            words,
-            words_len,
-            ones,
-            ones_len,
-            twos,
-            twos_len,
-            budget,
-            out,
-            out_len,
-        );
-        answer
-    }
-
-    // The arguments are those of the function as C declares it.
-    #[allow(clippy::too_many_arguments)]
-    pub unsafe fn belfrymist_pairs(
-        l: usize,
-        words: *const u32,
-        words_len: usize,
-        ones: *const u16,
-        ones_len: usize,
-        twos: *const u16,
-        twos_len: usize,
-        out: *mut u32,
-        out_len: usize,
-    ) -> WalkAnswer {
-        let mut answer = WalkAnswer::default();
-        placed::belfrymist_pairs(
-            &mut answer,
-            l,
-            words,
-            words_len,
-            ones,
-            ones_len,
-            twos,
-            twos_len,
-            out,
-            out_len,
-        );
+    ) -> BuildAnswer {
+        let mut answer = BuildAnswer::default();
+        placed::belfrymist_build(&mut answer, card, card_len, budget, out, out_len);
         answer
     }
 }
 
 use exported::{
-    belfrymist_admit, belfrymist_companion, belfrymist_entry, belfrymist_fetch, belfrymist_pairs,
-    belfrymist_step, belfrymist_walk, belfrymist_write,
+    belfrymist_admit, belfrymist_build, belfrymist_companion, belfrymist_entry, belfrymist_fetch,
+    belfrymist_step, belfrymist_write,
 };
 
 /// Admits the card.
@@ -291,44 +210,16 @@ pub fn write(
     }
 }
 
-/// Walks over the span card whose entries stand in three lists.
-pub fn walk(
-    l: usize,
-    words: &[u32],
-    ones: &[u16],
-    twos: &[u16],
-    budget: u32,
-    out: &mut [u32],
-) -> WalkAnswer {
-    // SAFETY: as for `write`.
+/// Builds from the card with this budget.
+pub fn build(card: &[u8], budget: u32, out: &mut [u8]) -> BuildAnswer {
+    // SAFETY: each pointer with its length is that of a slice that lives through
+    // the call; the library only reads the card, and the output is lent to it
+    // alone.
     unsafe {
-        belfrymist_walk(
-            l,
-            words.as_ptr(),
-            words.len(),
-            ones.as_ptr(),
-            ones.len(),
-            twos.as_ptr(),
-            twos.len(),
+        belfrymist_build(
+            card.as_ptr(),
+            card.len(),
             budget,
-            out.as_mut_ptr(),
-            out.len(),
-        )
-    }
-}
-
-/// Judges the pair card whose entries stand in three lists.
-pub fn pairs(l: usize, words: &[u32], ones: &[u16], twos: &[u16], out: &mut [u32]) -> WalkAnswer {
-    // SAFETY: as for `write`.
-    unsafe {
-        belfrymist_pairs(
-            l,
-            words.as_ptr(),
-            words.len(),
-            ones.as_ptr(),
-            ones.len(),
-            twos.as_ptr(),
-            twos.len(),
             out.as_mut_ptr(),
             out.len(),
         )

@@ -1,15 +1,14 @@
 //! The answers of `second`, put as the compiled library puts them.
 
 use second::block;
+use second::build;
 use second::entry::{Entry, Places};
-use second::lists::Lists;
 use second::reader::{self, Head};
 use second::refusal::Refusal;
-use second::verdict::{Verdict, Walked};
-use second::walk;
+use second::verdict::Verdict;
 use second::writer;
 
-use crate::answers::{Admitted, EntryAnswer, Held, Part, StepAnswer, WalkAnswer, WriteAnswer};
+use crate::answers::{Admitted, BuildAnswer, EntryAnswer, Held, Part, StepAnswer, WriteAnswer};
 
 /// Admits the card.
 pub fn admit(card: &[u8]) -> Admitted {
@@ -129,52 +128,21 @@ pub fn write(
     }
 }
 
-/// Walks over the span card whose entries stand in three lists.
-pub fn walk(
-    l: usize,
-    words: &[u32],
-    ones: &[u16],
-    twos: &[u16],
-    budget: u32,
-    out: &mut [u32],
-) -> WalkAnswer {
-    walk_answer(walk::walk(l, words, ones, twos, budget, out))
-}
-
-/// The same, with the lists as they were drawn.
-pub fn walk_lists(lists: &Lists, budget: u32, out: &mut [u32]) -> WalkAnswer {
-    let Lists {
-        l,
-        words,
-        ones,
-        twos,
-        ..
-    } = lists;
-    walk(*l, words, ones, twos, budget, out)
-}
-
-/// Judges the pair card whose entries stand in lists as they were drawn.
-pub fn pair_lists(lists: &Lists, out: &mut [u32]) -> WalkAnswer {
-    walk_answer(lists.pairs(out))
-}
-
-/// What a call that looks for builds answers.
-fn walk_answer(answer: Result<Walked, Refusal>) -> WalkAnswer {
-    match answer {
-        Ok(Walked {
-            verdict,
-            placements,
-        }) => WalkAnswer {
-            verdict: verdict_number(verdict),
-            placements: placements as usize,
-            ..WalkAnswer::default()
+/// Builds from the card with this budget.
+pub fn build(card: &[u8], budget: u32, out: &mut [u8]) -> BuildAnswer {
+    match build::build(card, budget, out) {
+        Ok(built) => BuildAnswer {
+            verdict: verdict_number(built.verdict),
+            length: built.length,
+            placements: built.placements as usize,
+            ..BuildAnswer::default()
         },
         Err(refusal) => {
             let (number, place) = number_and_place(refusal);
-            WalkAnswer {
+            BuildAnswer {
                 number,
                 place,
-                ..WalkAnswer::default()
+                ..BuildAnswer::default()
             }
         }
     }

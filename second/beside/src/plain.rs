@@ -1,9 +1,8 @@
 //! The walk in plain C, as `c/walk.c` has it.
 
 use second::lists::Lists;
-use second::numbers::{MOST_ENTRIES, SPAN_WIDTH};
-
-use crate::answers::WalkAnswer;
+use second::numbers::{MOST_ENTRIES, SPAN, SPAN_WIDTH};
+use second::verdict::Verdict;
 
 /// The most entries of a card.
 const MOST: usize = MOST_ENTRIES as usize;
@@ -62,10 +61,10 @@ extern "C" {
 pub struct Sound<'a>(&'a Lists);
 
 impl<'a> Sound<'a> {
-    /// These lists, if the walk of `second` does not refuse them with room.
+    /// These lists, if they are span lists and `second` finds them sound.
     pub fn new(lists: &'a Lists) -> Option<Sound<'a>> {
-        let mut out = vec![0; lists.words.len()];
-        lists.walk(0, &mut out).is_ok().then_some(Sound(lists))
+        let is_span = lists.kind == usize::from(SPAN);
+        (is_span && lists.admitted().is_ok()).then_some(Sound(lists))
     }
 
     /// Fills the tables alone.
@@ -86,8 +85,11 @@ impl<'a> Sound<'a> {
         }
     }
 
-    /// Prepares the tables and walks, with the answer put as the library puts it.
-    pub fn walk(self, budget: u32, out: &mut [u32]) -> WalkAnswer {
+    /// Prepares the tables and walks, and gives the verdict and the placements.
+    ///
+    /// For Sole and Several the words of the first build stand at the start of
+    /// the output.
+    pub fn walk(self, budget: u32, out: &mut [u32]) -> (Verdict, u32) {
         let Lists {
             l,
             words,
@@ -112,30 +114,37 @@ impl<'a> Sound<'a> {
                 &mut answer,
             );
         }
-        WalkAnswer {
-            verdict: answer.verdict as usize,
-            placements: answer.placements as usize,
-            ..WalkAnswer::default()
-        }
+        let verdict = match answer.verdict {
+            1 => Verdict::Sole,
+            2 => Verdict::Several,
+            3 => Verdict::None,
+            _ => Verdict::Unsettled,
+        };
+        (verdict, answer.placements)
     }
 }
 
 #[cfg(test)]
 mod tests {
     use super::*;
-    use crate::independent;
     use second::cards::Random;
     use second::spans::{any_spans, misread, sequence, widest, words_in};
 
-    /// Holds the C walk to the answer and the output of `second`.
-    fn hold(lists: &Lists, budget: u32) -> WalkAnswer {
+    /// Holds the C walk to the answer and the words of `second`, and gives the placements.
+    fn hold(lists: &Lists, budget: u32) -> u32 {
+        let found = lists.find(budget);
+        let mut out = vec![7; lists.words.len() + 3];
+        let mut wanted = out.clone();
+        wanted[..found.words.len()].copy_from_slice(&found.words);
         let sound = Sound::new(lists).expect("sound lists");
-        let mut by_c = vec![7; lists.words.len() + 3];
-        let mut by_second = by_c.clone();
-        let c = sound.walk(budget, &mut by_c);
-        let second = independent::walk_lists(lists, budget, &mut by_second);
-        assert_eq!((c, by_c), (second, by_second), "budget {budget}, {lists:?}");
-        second
+        let by_c = sound.walk(budget, &mut out);
+        let by_second = (found.verdict, found.placements);
+        assert_eq!(
+            (by_c, out),
+            (by_second, wanted),
+            "budget {budget}, {lists:?}"
+        );
+        found.placements
     }
 
     #[test]
@@ -143,14 +152,22 @@ mod tests {
         let mut random = Random::new(1);
         for _ in 0..6000 {
             let lists = any_spans(&mut random);
-            if Sound::new(&lists).is_none() {
-                continue;
-            }
-            let own = hold(&lists, 2000).placements as u32;
+            let own = hold(&lists, 2000);
             for budget in [own, own.saturating_sub(1), own / 2, 0] {
                 hold(&lists, budget);
             }
         }
+    }
+
+    #[test]
+    fn lists_that_are_not_sound_are_not_taken() {
+        let mut lists = any_spans(&mut Random::new(3));
+        assert!(Sound::new(&lists).is_some());
+        lists.kind = 1;
+        assert!(Sound::new(&lists).is_none());
+        lists.kind = 2;
+        lists.twos[0] = lists.words.len() as u16;
+        assert!(Sound::new(&lists).is_none());
     }
 
     #[test]

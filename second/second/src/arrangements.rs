@@ -4,16 +4,13 @@ use std::collections::BTreeSet;
 
 use crate::entry::Entry;
 use crate::lists::Lists;
-use crate::profile::Kind;
 
-/// All builds of sound lists of this kind, each as its words.
-pub fn builds(lists: &Lists, kind: Kind) -> BTreeSet<Vec<u32>> {
-    let profile = lists.given().profile(kind, lists.l);
-    let profile = profile.expect("lists that are sound");
-    let entries = lists.given().entries().map(|stored| stored.entry(&profile));
+/// All builds of sound lists, each as its words.
+pub fn builds(lists: &Lists) -> BTreeSet<Vec<u32>> {
+    let (_, entries) = lists.admitted().expect("lists that are sound");
     let mut search = Search {
         l: lists.l,
-        entries: entries.collect::<Result<_, _>>().expect("sound entries"),
+        entries,
         row: Vec::new(),
         builds: BTreeSet::new(),
     };
@@ -57,7 +54,7 @@ impl Search {
                 tail.eq(self.letters(entry.word).take(self.l - 1))
             }
         };
-        overlaps && entry.places.each().any(|place| place == self.row.len())
+        overlaps && entry.places.holds(self.row.len())
     }
 
     /// The letters of a word, from the first on.

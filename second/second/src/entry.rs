@@ -26,6 +26,22 @@ impl Places {
         run.chain(second).map(usize::from)
     }
 
+    /// Says whether this is an allowed place.
+    pub fn holds(self, place: usize) -> bool {
+        let is = |allowed: u16| usize::from(allowed) == place;
+        match self {
+            Places::One(one) => is(one),
+            Places::Two(one, two) => is(one) || is(two),
+            Places::Span(first, last) => (usize::from(first)..=usize::from(last)).contains(&place),
+        }
+    }
+
+    /// The last allowed place.
+    pub fn last(self) -> usize {
+        let (Places::One(last) | Places::Two(_, last) | Places::Span(_, last)) = self;
+        usize::from(last)
+    }
+
     /// The other of two places, where this is one of them.
     pub fn besides(self, place: usize) -> Option<usize> {
         let Places::Two(one, two) = self else {
@@ -163,6 +179,12 @@ mod tests {
         assert_eq!(each(Places::Two(3, 7)), [3, 7]);
         assert_eq!(each(Places::Span(3, 6)), [3, 4, 5, 6]);
         assert_eq!(each(Places::Span(3, 3)), [3]);
+
+        for places in [Places::One(3), Places::Two(3, 7), Places::Span(3, 6)] {
+            let held: Vec<usize> = (0..9).filter(|&place| places.holds(place)).collect();
+            assert_eq!(held, each(places));
+            assert_eq!(held.last(), Some(&places.last()));
+        }
 
         assert_eq!(Places::Two(3, 7).besides(3), Some(7));
         assert_eq!(Places::Two(3, 7).besides(7), Some(3));

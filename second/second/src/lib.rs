@@ -1,10 +1,11 @@
-//! An independent reader and writer of spectrum cards, and the verdicts on span lists and pair lists.
+//! An independent reader and writer of spectrum cards, and builder of sequences from them.
 //!
 //! It is written from the scope document alone. Tests and comparisons set it
 //! beside the proved code, so it shares nothing with that one and takes its
 //! own way through the same rules:
 //!
 //! * [`numbers`]: every number of the card, each in one place;
+//! * [`letters`]: the letters of words and builds;
 //! * [`refusal`]: why a call is refused, and at which place;
 //! * [`check`]: the two sums of a block;
 //! * [`block`]: the block fetch, its companion and the seal;
@@ -14,22 +15,29 @@
 //! * [`given`]: three lists as a call is given them, and their tests;
 //! * [`writer`]: writing a card from lists;
 //! * [`verdict`]: what is found of the builds of a card;
-//! * [`walk`]: the walk over span lists, as the scope document words it;
-//! * [`pairs`]: the verdict on pair lists, by rings of choices;
+//! * [`walk`]: the walk on span cards, as the scope document words it;
+//! * [`pairs`]: the verdict on pair cards, by rings of choices;
+//! * [`build`]: building from a card;
+//! * [`report`]: what the program `build` prints for a card;
 //! * [`arrangements`]: the builds of small cards, by trying every arrangement;
+//! * [`tables`]: the small tables of the scope document;
 //! * [`cards`]: sound and damaged cards for tests, drawn from a seed;
 //! * [`lists`]: sound and damaged lists for tests, drawn from a seed;
 //! * [`spans`]: span lists for tests of the walk, drawn from a seed;
-//! * [`pair_lists`]: pair lists for tests of their verdict, drawn from a seed.
+//! * [`pair_lists`]: pair lists for tests of their verdict, drawn from a seed;
+//! * [`for_builds`]: lists of either kind, rooms and budgets, drawn from a seed.
 
 pub mod arrangements;
 pub mod block;
+pub mod build;
 pub mod cards;
 pub mod check;
 pub mod entry;
 #[cfg(test)]
 mod examples;
+pub mod for_builds;
 pub mod given;
+pub mod letters;
 pub mod lists;
 pub mod numbers;
 pub mod pair_lists;
@@ -37,7 +45,9 @@ pub mod pairs;
 pub mod profile;
 pub mod reader;
 pub mod refusal;
+pub mod report;
 pub mod spans;
+pub mod tables;
 pub mod verdict;
 pub mod walk;
 pub mod writer;

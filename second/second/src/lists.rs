@@ -2,18 +2,17 @@
 //!
 //! Nothing here judges the lists: damage may by chance leave them sound.
 
+use crate::build;
 use crate::cards::{any_count, Draft, Random};
-use crate::entry::Stored;
+use crate::entry::{Entry, Stored};
 use crate::given::Given;
 use crate::numbers::{
     BLOCK, ENTRIES_PER_BLOCK, MOST_ENTRIES, MOST_LETTERS, NO_PLACE, SPAN_WIDTH, THE_FORM,
 };
-use crate::pairs;
-use crate::profile::Kind;
+use crate::profile::{Kind, Profile};
 use crate::reader;
 use crate::refusal::Refusal;
-use crate::verdict::Walked;
-use crate::walk;
+use crate::verdict::Found;
 use crate::writer;
 
 /// The most elements of a list that is drawn.
@@ -99,6 +98,11 @@ impl Lists {
         (1 + self.words.len().div_ceil(ENTRIES_PER_BLOCK)) * BLOCK
     }
 
+    /// The letters of a build with all of the words, where l is sound.
+    pub fn build_length(&self) -> usize {
+        self.words.len() + self.l - 1
+    }
+
     /// Entry i, which all three lists have.
     pub fn get(&self, i: usize) -> Stored {
         Stored {
@@ -143,28 +147,28 @@ impl Lists {
         writer::write(self.kind, self.l, &self.words, &self.ones, &self.twos, out)
     }
 
-    /// Has the walk go over them as span lists, whatever their kind.
-    pub fn walk(&self, budget: u32, out: &mut [u32]) -> Result<Walked, Refusal> {
-        let Lists {
-            l,
-            words,
-            ones,
-            twos,
-            ..
-        } = self;
-        walk::walk(*l, words, ones, twos, budget, out)
+    /// Their card, which the writer writes, or the writer's refusal.
+    pub fn card(&self) -> Result<Vec<u8>, Refusal> {
+        let mut card = vec![0; self.size()];
+        self.write(&mut card)?;
+        Ok(card)
     }
 
-    /// Has them judged as pair lists, whatever their kind.
-    pub fn pairs(&self, out: &mut [u32]) -> Result<Walked, Refusal> {
-        let Lists {
-            l,
-            words,
-            ones,
-            twos,
-            ..
-        } = self;
-        pairs::pairs(*l, words, ones, twos, out)
+    /// What sound lists say: kind, l and m, and the entries.
+    pub fn admitted(&self) -> Result<(Profile, Vec<Entry>), Refusal> {
+        let profile = self.given().profile(Kind::of_number(self.kind)?, self.l)?;
+        // All of them passed their tests, so that no entry is left out.
+        let entries = self
+            .given()
+            .entries()
+            .flat_map(|stored| stored.entry(&profile));
+        Ok((profile, entries.collect()))
+    }
+
+    /// What is found of the builds of sound lists.
+    pub fn find(&self, budget: u32) -> Found {
+        let (profile, entries) = self.admitted().expect("lists that are sound");
+        build::find(&profile, &entries, budget)
     }
 }
 

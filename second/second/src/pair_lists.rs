@@ -5,10 +5,10 @@
 
 use crate::cards::Random;
 use crate::entry::Stored;
-use crate::lists::{damage, Lists};
-use crate::numbers::{MOST_ENTRIES, MOST_LETTERS, NO_PLACE, PAIR};
+use crate::lists::Lists;
+use crate::numbers::{NO_PLACE, PAIR};
 use crate::profile::Kind;
-use crate::spans::{sequence, shuffle, words_in};
+use crate::spans::{any_size, sequence, shuffle, words_in};
 
 /// Lists of these words in turn, each at its own place and at another.
 ///
@@ -319,24 +319,9 @@ pub fn any_sound_pairs(random: &mut Random, l: usize, m: usize, letters: usize) 
     }
 }
 
-/// Any lists: most are sound and of few entries, and some are damaged.
+/// Any sound lists: most have a build, and most are of few entries.
 pub fn any_pairs(random: &mut Random) -> Lists {
-    let l = match random.below(8) {
-        0..=5 => random.between(2, 4),
-        _ => random.between(5, usize::from(MOST_LETTERS)),
-    };
-    let m = match random.below(64) {
-        0..=1 => random.between(120, usize::from(MOST_ENTRIES)),
-        2..=6 => random.between(25, 120),
-        7..=20 => random.between(10, 24),
-        _ => random.between(1, 9),
-    };
+    let (l, m) = any_size(random);
     let letters = random.between(1, 4);
-    let mut lists = any_sound_pairs(random, l, m, letters);
-    if random.once_in(6) {
-        for _ in 0..random.between(1, 3) {
-            damage(random, &mut lists);
-        }
-    }
-    lists
+    any_sound_pairs(random, l, m, letters)
 }

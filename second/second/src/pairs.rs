@@ -1,4 +1,4 @@
-//! The verdict on pair lists.
+//! The verdict on pair cards.
 //!
 //! Places with one candidate take it, as document 000 does in section 3. What
 //! is left are rings, each of which may be turned to two sides. Neighbouring
@@ -12,10 +12,7 @@ mod tests;
 mod ties;
 
 use crate::entry::Entry;
-use crate::given::Given;
-use crate::profile::Kind;
-use crate::refusal::{Reason, Refusal};
-use crate::verdict::{Verdict, Walked};
+use crate::verdict::{Found, Verdict};
 
 use rings::{Rings, Side, Stand, SETTLED};
 use ties::Ties;
@@ -23,40 +20,20 @@ use ties::Ties;
 /// All that two rings can be turned to.
 const SIDES_OF_TWO: [(Side, Side); 4] = [(0, 0), (0, 1), (1, 0), (1, 1)];
 
-/// Judges the pair card whose entries stand in three lists.
+/// Judges the entries of a pair card whose words have l letters.
 ///
-/// Tested are 6, 13, 7, the entries in turn, 10 before 11, and then 12 where
-/// the output has fewer slots than there are entries. For Sole and Several the
-/// words of the alphabetically first build stand at the start of the output,
-/// and later slots are untouched; all other answers touch no slot. Placements
-/// are always 0, and the verdict is never Unsettled.
-pub fn pairs(
-    l: usize,
-    words: &[u32],
-    ones: &[u16],
-    twos: &[u16],
-    out: &mut [u32],
-) -> Result<Walked, Refusal> {
-    let given = Given { words, ones, twos };
-    let profile = given.profile(Kind::Pair, l)?;
-    let out = out.get_mut(..words.len()).ok_or(Reason::Room.at(0))?;
-    // No entry is left out: all of them passed their tests.
-    let entries = given.entries().flat_map(|stored| stored.entry(&profile));
-    let entries: Vec<Entry> = entries.collect();
-    let verdict = match builds(profile.l, &entries) {
-        None => Verdict::None,
-        Some(builds) => {
-            out.copy_from_slice(&builds.first);
-            match builds.choices {
-                0 => Verdict::Sole,
-                _ => Verdict::Several,
-            }
-        }
+/// Placements are always 0, and the verdict is never Unsettled.
+pub fn pairs(l: u8, entries: &[Entry]) -> Found {
+    let (verdict, words) = match builds(l, entries) {
+        None => (Verdict::None, Vec::new()),
+        Some(Builds { first, choices: 0 }) => (Verdict::Sole, first),
+        Some(Builds { first, .. }) => (Verdict::Several, first),
     };
-    Ok(Walked {
+    Found {
         verdict,
         placements: 0,
-    })
+        words,
+    }
 }
 
 /// The builds of a card that has any.

@@ -59,6 +59,11 @@ impl Profile {
     pub fn size(&self) -> usize {
         self.blocks() * BLOCK
     }
+
+    /// The letters of a build: m+l−1.
+    pub fn build_length(&self) -> usize {
+        usize::from(self.m) + usize::from(self.l) - 1
+    }
 }
 
 /// The letters of each word, where l is within its limits, or the refusal 6.
@@ -110,5 +115,15 @@ mod tests {
         };
         assert_eq!([1, 63, 64, 126].map(size), [1024, 1024, 1536, 1536]);
         assert_eq!([127, 441, 442, 504].map(size), [2048, 4096, 4608, 4608]);
+    }
+
+    #[test]
+    fn the_length_of_a_build() {
+        let length = |(l, m)| {
+            let kind = Kind::Span;
+            Profile { kind, l, m }.build_length()
+        };
+        assert_eq!([(2, 1), (12, 1), (2, 4)].map(length), [2, 12, 5]);
+        assert_eq!([(2, 504), (12, 504)].map(length), [505, 515]);
     }
 }

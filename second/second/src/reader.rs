@@ -58,6 +58,14 @@ impl Head {
     }
 }
 
+/// Admits the card and gives kind, l, m and all entries.
+pub fn entries(card: &[u8]) -> Result<(Profile, Vec<Entry>), Refusal> {
+    let profile = admit(card)?;
+    // The rules held when the card was admitted, so that no entry is left out.
+    let entries = stored(card, &profile).flat_map(|stored| stored.entry(&profile));
+    Ok((profile, entries.collect()))
+}
+
 /// Admits the card and writes its fields to the first m slots of three lent lists.
 ///
 /// The reader's refusals come first, then 12 where any list has fewer than m
@@ -75,9 +83,7 @@ pub fn admit_into(
         return Err(Reason::Room.at(0));
     }
     let lists = words.iter_mut().zip(ones).zip(twos);
-    let (blocks, _rest) = card[BLOCK..].as_chunks::<BLOCK>();
-    let stored = blocks.iter().flat_map(slots).take(m).map(Stored::of_bytes);
-    for (stored, ((word, one), two)) in stored.zip(lists) {
+    for (stored, ((word, one), two)) in stored(card, &profile).zip(lists) {
         *word = stored.word;
         *one = stored.one;
         *two = stored.two;
@@ -125,6 +131,13 @@ fn entry_of_admitted(card: &[u8], profile: &Profile, i: usize) -> Result<Entry, 
         .map_err(|reason| reason.at(i))
 }
 
+/// The entries in turn of a card that was admitted with this profile, as stored.
+fn stored<'a>(card: &'a [u8], profile: &Profile) -> impl Iterator<Item = Stored> + 'a {
+    let (blocks, _rest) = card[BLOCK..].as_chunks::<BLOCK>();
+    let used = blocks.iter().flat_map(slots).take(usize::from(profile.m));
+    used.map(Stored::of_bytes)
+}
+
 /// The entry slots of a later block, used or not.
 fn slots(block: &Block) -> &[[u8; ENTRY]] {
     block[..ENTRIES_PER_BLOCK * ENTRY].as_chunks::<ENTRY>().0
@@ -158,6 +171,8 @@ mod tests {
             (2, Places::Span(0, 2)),
             (8, Places::Span(1, 3)),
         ];
+        let all = expected.map(|(word, places)| Entry { word, places });
+        assert_eq!(entries(&card), Ok((profile, all.to_vec())));
         let mut head = Head::start();
         for (i, (word, places)) in expected.into_iter().enumerate() {
             let listed = Entry { word, places };

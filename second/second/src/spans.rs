@@ -5,7 +5,7 @@
 
 use crate::cards::Random;
 use crate::entry::Stored;
-use crate::lists::{damage, Lists};
+use crate::lists::Lists;
 use crate::numbers::{MOST_ENTRIES, MOST_LETTERS, SPAN, SPAN_WIDTH};
 
 /// A sequence with m words of l letters; its letters are the first of A, C, G, T.
@@ -88,24 +88,27 @@ pub fn misread(random: &mut Random, l: usize, m: usize, letters: usize) -> Vec<u
     words
 }
 
-/// Any lists for the walk: most have a build, some take many placements, and some are damaged.
+/// Lists that have no build, though every place but the last has many words to try.
+///
+/// The last word is of Ts alone, and no other word ends in T.
+pub fn without_end(random: &mut Random, l: usize, m: usize) -> Lists {
+    let mut words = words_in(&sequence(random, l, m, 2), l);
+    words[m - 1] = (1 << (2 * l)) - 1;
+    widest(random, l, &words)
+}
+
+/// Any sound lists: most have a build, most are of few entries, and some take many placements.
 pub fn any_spans(random: &mut Random) -> Lists {
-    let mut lists = match random.below(4) {
+    match random.below(4) {
         0 => any_widest(random),
-        _ => any_sound_spans(random),
-    };
-    if random.once_in(6) {
-        for _ in 0..random.between(1, 3) {
-            damage(random, &mut lists);
-        }
+        _ => any_widths(random),
     }
-    lists
 }
 
 /// Lists of few different words in the widest spans, of which half have a word that was misread.
 fn any_widest(random: &mut Random) -> Lists {
-    let l = random.between(2, 3);
-    let m = random.between(6, 30);
+    let l = random.between(2, 4);
+    let m = random.between(6, 40);
     let letters = random.between(2, 3);
     let words = match random.below(2) {
         0 => words_in(&sequence(random, l, m, letters), l),
@@ -114,8 +117,19 @@ fn any_widest(random: &mut Random) -> Lists {
     widest(random, l, &words)
 }
 
-/// Sound lists of any l and m, most of few entries, in spans of any width.
-fn any_sound_spans(random: &mut Random) -> Lists {
+/// Lists of any l and m in spans of any width.
+fn any_widths(random: &mut Random) -> Lists {
+    let (l, m) = any_size(random);
+    let letters = random.between(1, 4);
+    let wide = random.between(1, usize::from(SPAN_WIDTH));
+    match random.below(8) {
+        0..=4 => with_build(random, l, m, letters, wide),
+        _ => perhaps_without(random, l, m, letters),
+    }
+}
+
+/// Any l and m, mostly small ones.
+pub fn any_size(random: &mut Random) -> (usize, usize) {
     let l = match random.below(8) {
         0..=5 => random.between(2, 4),
         _ => random.between(5, usize::from(MOST_LETTERS)),
@@ -126,22 +140,5 @@ fn any_sound_spans(random: &mut Random) -> Lists {
         6..=20 => random.between(10, 24),
         _ => random.between(1, 9),
     };
-    let letters = random.between(1, 4);
-    let wide = random.between(1, usize::from(SPAN_WIDTH));
-    match random.below(8) {
-        0..=4 => with_build(random, l, m, letters, wide),
-        _ => perhaps_without(random, l, m, letters),
-    }
-}
-
-/// Any room for the words of a build: mostly as many slots as there are words, or one beside it.
-pub fn any_slots(random: &mut Random, m: usize) -> usize {
-    match random.below(8) {
-        0..=2 => m,
-        3 => m.saturating_sub(1),
-        4 => m + 1,
-        5 => random.below(m + 1),
-        6 => m + random.below(96),
-        _ => random.pick(&[0, 1, 504, 600]),
-    }
+    (l, m)
 }

@@ -1,45 +1,25 @@
-//! The walk over span lists: the rule of the scope document, as it is worded there.
+//! The walk on span cards: the rule of the scope document, as it is worded there.
 //!
 //! Every entry is looked at for every place that the walk comes to. Nothing is
 //! sorted or kept beforehand, so that the rule can be read off.
 
-use crate::entry::Stored;
-use crate::given::Given;
-use crate::profile::{Kind, Profile};
-use crate::refusal::{Reason, Refusal};
-use crate::verdict::{Verdict, Walked};
+use crate::entry::Entry;
+use crate::verdict::{Found, Verdict};
 
-/// Walks over the span card whose entries stand in three lists.
-///
-/// Tested are 6, 13, 7, the entries in turn, 10 before 11, and then 12 where
-/// the output has fewer slots than there are entries. For Sole and Several the
-/// words of the alphabetically first build stand at the start of the output,
-/// and later slots are untouched; all other answers touch no slot.
-pub fn walk(
-    l: usize,
-    words: &[u32],
-    ones: &[u16],
-    twos: &[u16],
-    budget: u32,
-    out: &mut [u32],
-) -> Result<Walked, Refusal> {
-    let given = Given { words, ones, twos };
-    let profile = given.profile(Kind::Span, l)?;
-    let out = out.get_mut(..words.len()).ok_or(Reason::Room.at(0))?;
-    let mut walk = Walk::new(&profile, given.entries().collect(), budget);
-    let verdict = match (walk.go_on(), &walk.first) {
-        (Err(Stop::SecondBuild), _) => Verdict::Several,
-        (Err(Stop::Budget), _) => Verdict::Unsettled,
-        (Ok(()), Some(_)) => Verdict::Sole,
-        (Ok(()), None) => Verdict::None,
+/// Walks over the entries of a span card whose words have l letters.
+pub fn walk(l: u8, entries: &[Entry], budget: u32) -> Found {
+    let mut walk = Walk::new(l, entries, budget);
+    let (verdict, words) = match (walk.go_on(), walk.first) {
+        (Err(Stop::SecondBuild), Some(first)) => (Verdict::Several, first),
+        (Ok(()), Some(first)) => (Verdict::Sole, first),
+        (Err(Stop::Budget), _) => (Verdict::Unsettled, Vec::new()),
+        (_, None) => (Verdict::None, Vec::new()),
     };
-    if let (Verdict::Sole | Verdict::Several, Some(first)) = (verdict, &walk.first) {
-        out.copy_from_slice(first);
-    }
-    Ok(Walked {
+    Found {
         verdict,
         placements: walk.placements,
-    })
+        words,
+    }
 }
 
 /// Why a walk ends before it has run out.
@@ -51,11 +31,10 @@ enum Stop {
 }
 
 /// A walk that is under way.
-struct Walk {
+struct Walk<'a> {
     /// 4^(l−1): what the last l−1 letters of a word are below.
     tails: u32,
-    /// The entries; place one is the first place of the span and place two the last.
-    entries: Vec<Stored>,
+    entries: &'a [Entry],
     /// Whether each entry is used.
     used: Vec<bool>,
     /// The words that stand at the places so far.
@@ -66,11 +45,11 @@ struct Walk {
     placements: u32,
 }
 
-impl Walk {
-    /// A walk that has placed nothing, over entries that were tested.
-    fn new(profile: &Profile, entries: Vec<Stored>, budget: u32) -> Walk {
+impl Walk<'_> {
+    /// A walk that has placed nothing.
+    fn new(l: u8, entries: &[Entry], budget: u32) -> Walk<'_> {
         Walk {
-            tails: 4u32.pow(u32::from(profile.l) - 1),
+            tails: 4u32.pow(u32::from(l) - 1),
             used: vec![false; entries.len()],
             row: Vec::with_capacity(entries.len()),
             entries,
@@ -134,8 +113,8 @@ impl Walk {
     }
 
     /// Where an entry ends, and its index, by which equal words are told apart.
-    fn ending(&self, entry: usize) -> (u16, usize) {
-        (self.entries[entry].two, entry)
+    fn ending(&self, entry: usize) -> (usize, usize) {
+        (self.entries[entry].places.last(), entry)
     }
 
     /// The unused entries that may stand at the next place.
@@ -143,10 +122,10 @@ impl Walk {
         let place = self.row.len();
         let due: Vec<usize> = self
             .unused()
-            .filter(|&entry| usize::from(self.entries[entry].two) <= place)
+            .filter(|&entry| self.entries[entry].places.last() <= place)
             .collect();
         self.unused()
-            .filter(|&entry| self.holds(entry, place) && self.overlaps(entry))
+            .filter(|&entry| self.entries[entry].places.holds(place) && self.overlaps(entry))
             .filter(|&entry| due.iter().all(|&other| other == entry))
             .collect()
     }
@@ -154,12 +133,6 @@ impl Walk {
     /// The entries that are not used.
     fn unused(&self) -> impl Iterator<Item = usize> + '_ {
         (0..self.entries.len()).filter(|&entry| !self.used[entry])
-    }
-
-    /// Says whether an entry's span holds this place.
-    fn holds(&self, entry: usize, place: usize) -> bool {
-        let Stored { one, two, .. } = self.entries[entry];
-        (usize::from(one)..=usize::from(two)).contains(&place)
     }
 
     /// Says whether an entry's word begins with the last l−1 letters of the last word.

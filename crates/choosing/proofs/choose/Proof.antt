@@ -1,7 +1,7 @@
 -- `choosing::choose` meets its contract: a law of proofs/Choosing.antt for each outcome. Assumes nothing.
 use Prim.Native.Nat.{_-_}
 use Rattle.choosing.proofs.Choosing.{choose-none, choose-one, choose-weighed-none, choose-kept}
-use Rattle.following.proofs.Forcing.{inside-of}
+use Rattle.following.proofs.ExclusionLaws.{inside-of}
 use borrow.Author.Needs.{needs}
 use Rattle.choosing.proofs.choose.Statement.{statement}
 use Rattle.choosing.proofs.choose.Tie as tie

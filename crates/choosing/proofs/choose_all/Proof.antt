@@ -4,7 +4,7 @@ use Prim.Native.Nat.{_-_, _≤_}
 use native.Mathlib.Omega.{arith}
 use lib.ListN.{length}
 use Rattle.following.specs.Following.{pairsOf}
-use Rattle.following.proofs.Forcing.{inside-of}
+use Rattle.following.proofs.ExclusionLaws.{inside-of}
 use Rattle.choosing.proofs.Deciding.{Deciding, deciding-more, deciding-stops, deciding-end}
 use Rattle.choosing.proofs.choose_all.Statement.{statement}
 use Rattle.choosing.proofs.choose_all.Tie as tie

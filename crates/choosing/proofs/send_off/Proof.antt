@@ -4,7 +4,7 @@ use mathlib.Core.Logic.{_⊎_, ⊎-elim}
 use Prim.Native.Nat.{_-_}
 use native.Mathlib.Omega.{arith}
 use Rattle.following.specs.Following.{pairsOf}
-use Rattle.following.proofs.Forcing.{other-asks, other-inside, other-stands}
+use Rattle.following.proofs.ExclusionLaws.{other-asks, other-inside, other-stands}
 use Rattle.choosing.proofs.Choosing.{drops-still, drops-not, drops-follow, only-there}
 use borrow.Author.Needs.{needs}
 use Rattle.choosing.proofs.send_off.Statement.{statement}

@@ -1,7 +1,7 @@
--- `following::attempt` meets its contract: following, then undoing (`attempted`, proofs/Forcing.antt). Assumes nothing.
+-- `following::attempt` meets its contract: following, then undoing (`attempted`, proofs/UndoLaws.antt). Assumes nothing.
 use Prim.Native.Nat.{_-_}
 use native.Mathlib.Omega.{arith}
-use Rattle.following.proofs.Forcing.{attempted}
+use Rattle.following.proofs.UndoLaws.{attempted}
 use borrow.Author.Needs.{needs}
 use Rattle.following.proofs.attempt.Statement.{statement}
 use Rattle.following.proofs.attempt.Tie as tie

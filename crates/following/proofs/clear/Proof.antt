@@ -1,11 +1,12 @@
--- `following::clear` meets its contract. The loop's invariant: e is rid of the entries of q from slot k on (`Clearing`, proofs/Forcing).
--- The measure is k. Assumes nothing.
+-- `following::clear` meets its contract. The loop's invariant: e is rid of the entries of q from slot k on (`Clearing`,
+-- proofs/PlaceLaws.antt). The measure is k. Assumes nothing.
 use mathlib.Core.Path.{sym, _∙_}
 use Prim.Native.Nat.{_-_, _<_}
 use native.Mathlib.Omega.{arith}
 use lib.ListN.{length, getD}
 use borrow.Author.Needs.{needs}
-use Rattle.following.proofs.Forcing.{Clearing, clear-start, clear-more, entry-low, entry-stands, clear-end, went-stops, went-ok}
+use Rattle.following.proofs.StepLaws.{went-stops, went-ok}
+use Rattle.following.proofs.PlaceLaws.{Clearing, clear-start, clear-more, entry-low, entry-stands, clear-end}
 use Rattle.following.proofs.clear.Statement.{statement}
 use Rattle.following.proofs.clear.Tie as tie
 

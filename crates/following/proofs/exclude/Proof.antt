@@ -1,8 +1,8 @@
--- `following::exclude` meets its contract: a law of proofs/Forcing.antt for each outcome. Assumes nothing.
+-- `following::exclude` meets its contract: a law of proofs/ExclusionLaws.antt for each outcome. Assumes nothing.
 use mathlib.Core.Path.{sym, _∙_}
 use mathlib.Core.Logic.{inl, inr}
 use native.Mathlib.Omega.{arith}
-use Rattle.following.proofs.Forcing.{went-still, went-clash, clash-there, clash-only, went-put, room, other-asks, other-inside}
+use Rattle.following.proofs.ExclusionLaws.{went-still, went-clash, clash-there, clash-only, went-put, room, other-asks, other-inside}
 use borrow.Author.Needs.{needs}
 use Rattle.following.proofs.exclude.Statement.{statement}
 use Rattle.following.proofs.exclude.Tie as tie

@@ -1,12 +1,14 @@
 -- `following::follow` meets its contract. The loop's invariant: each placed entry is rid of what it excludes, but for those on the trail
--- from top on (`Chasing`, proofs/Forcing.antt). The measure is what is left of the trail's room. Assumes nothing.
+-- from top on (`Chasing`, proofs/PlaceLaws.antt). The measure is what is left of the trail's room. Assumes nothing.
 use mathlib.Core.Path.{sym, _∙_}
 use Prim.Native.Nat.{_-_}
 use native.Mathlib.Omega.{arith}
 use lib.ListN.{length}
 use borrow.Author.Needs.{needs}
 use Rattle.following.specs.Following.{pairsOf}
-use Rattle.following.proofs.Forcing.{Chasing, chase-start, chase-more, follow-end, follow-stop, went-ok, went-stops, room}
+use Rattle.following.proofs.ExclusionLaws.{room}
+use Rattle.following.proofs.StepLaws.{went-ok, went-stops}
+use Rattle.following.proofs.PlaceLaws.{Chasing, chase-start, chase-more, follow-end, follow-stop}
 use Rattle.following.proofs.follow.Statement.{statement}
 use Rattle.following.proofs.follow.Tie as tie
 

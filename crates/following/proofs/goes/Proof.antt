@@ -1,7 +1,7 @@
 -- `following::goes` meets its contract: a law for each of its four outcomes. Assumes nothing.
 use mathlib.Core.Path.{refl}
 use borrow.Author.Needs.{needs}
-use Rattle.following.proofs.Forcing.{goes-same, goes-on, goes-back, goes-far}
+use Rattle.following.proofs.ExclusionLaws.{goes-same, goes-on, goes-back, goes-far}
 use Rattle.following.proofs.goes.Statement.{statement}
 use Rattle.following.proofs.goes.Tie as tie
 

@@ -4,7 +4,9 @@ use Prim.Native.Nat.{ℕ, _+_, _-_, _<_}
 use native.Mathlib.Omega.{arith}
 use borrow.Author.Needs.{needs}
 use lib.ListN.{length}
-use Rattle.following.proofs.Forcing.{went-still, went-told, went-none, went-stuck, beyond, inside-of}
+use Rattle.following.proofs.ExclusionLaws.{went-still, inside-of}
+use Rattle.following.proofs.StepLaws.{went-told, went-none}
+use Rattle.following.proofs.PlaceLaws.{went-stuck, beyond}
 use Rattle.following.proofs.near.Statement.{statement}
 use Rattle.following.proofs.near.Tie as tie
 

@@ -1,7 +1,8 @@
 -- `following::rid` meets its contract: three calls in a row. Assumes nothing.
 use mathlib.Core.Path.{_∙_}
 use borrow.Author.Needs.{needs}
-use Rattle.following.proofs.Forcing.{went-stops, went-ok, went-none, rid-whole}
+use Rattle.following.proofs.StepLaws.{went-stops, went-ok, went-none}
+use Rattle.following.proofs.PlaceLaws.{rid-whole}
 use Rattle.following.proofs.rid.Statement.{statement}
 use Rattle.following.proofs.rid.Tie as tie
 

@@ -1,10 +1,10 @@
--- `following::undo` meets its contract. The loop's invariant is `Undoing` of proofs/Forcing.antt; the measure is what is left of the trail.
--- Assumes nothing.
+-- `following::undo` meets its contract. The loop's invariant is `Undoing` of proofs/UndoLaws.antt; the measure is what is left of the
+-- trail. Assumes nothing.
 use Prim.Native.Nat.{_-_, _<_}
 use native.Mathlib.Omega.{arith}
 use lib.ListN.{length, getD}
 use borrow.Author.Needs.{needs}
-use Rattle.following.proofs.Forcing.{Undoing, undo-start, undo-more, undo-end}
+use Rattle.following.proofs.UndoLaws.{Undoing, undo-start, undo-more, undo-end}
 use Rattle.following.proofs.undo.Statement.{statement}
 use Rattle.following.proofs.undo.Tie as tie
 

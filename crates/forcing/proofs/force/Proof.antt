@@ -1,7 +1,7 @@
 -- `forcing::force` meets its contract: a law of proofs/Rooted.antt for each outcome. Assumes nothing.
 use Prim.Native.Nat.{_-_}
 use native.Mathlib.Omega.{arith}
-use Rattle.following.proofs.Forcing.{inside-of}
+use Rattle.following.proofs.ExclusionLaws.{inside-of}
 use Rattle.forcing.proofs.Rooted.{force-none, force-still, force-one}
 use borrow.Author.Needs.{needs}
 use Rattle.forcing.proofs.force.Statement.{statement}

@@ -6,7 +6,7 @@ use native.Mathlib.Omega.{arith}
 use lib.ListN.{length}
 use Rattle.following.specs.Following.{Trail, pairsOf, of}
 use Rattle.forcing.specs.Forcing.{Root}
-use Rattle.following.proofs.Forcing.{other-asks, other-inside}
+use Rattle.following.proofs.ExclusionLaws.{other-asks, other-inside}
 use Rattle.forcing.proofs.spread.Statement.{statement}
 use Rattle.forcing.proofs.spread.Tie as tie
 

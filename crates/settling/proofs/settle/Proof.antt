@@ -3,7 +3,7 @@ use mathlib.Core.Path.{refl}
 use mathlib.Core.Logic.{inl, inr}
 use Prim.Native.Nat.{_-_}
 use native.Mathlib.Omega.{arith}
-use Rattle.following.proofs.Forcing.{one-inside, two-inside}
+use Rattle.following.proofs.ExclusionLaws.{one-inside, two-inside}
 use Rattle.settling.proofs.Settled.{settles-had, settles-one, settles-two, undone}
 use borrow.Author.Needs.{needs}
 use Rattle.settling.proofs.settle.Statement.{statement}

@@ -5,7 +5,7 @@ use Prim.Native.Nat.{_-_}
 use native.Mathlib.Omega.{arith}
 use lib.ListN.{length}
 use borrow.Author.Needs.{needs}
-use Rattle.tables.proofs.PartLaws.{Filling, filling-none, filling-turn}
+use Rattle.sequence.proofs.FillingLaws.{Filling, filling-none, filling-turn}
 use Rattle.walk.proofs.WholeLaws.{zeros-unmarked}
 use Rattle.walk.proofs.unmark.Statement.{statement}
 use Rattle.walk.proofs.unmark.Tie as tie

@@ -3,20 +3,15 @@
 use super::{builds, Builds};
 use crate::arrangements;
 use crate::cards::Random;
-use crate::entry::{Entry, Stored};
+use crate::entry::Stored;
 use crate::lists::Lists;
 use crate::pair_lists::{
-    alone, any_pairs, any_sound_pairs, at_odds, beside_a_ring, beside_two_rings, by_turns,
-    forced_down, forced_up, in_steps, mirrored, pin, round_words, scattered, star, stars,
-    with_choices,
+    alone, any_sound_pairs, at_odds, beside_a_ring, beside_two_rings, by_turns, forced_down,
+    forced_up, in_steps, mirrored, pin, round_words, scattered, star, stars, with_choices,
 };
-use crate::profile::Kind;
-use crate::refusal::{Reason, Refusal};
 use crate::spans::{sequence, shuffle, words_in};
-use crate::verdict::{Verdict, Walked};
+use crate::verdict::{Found, Verdict};
 
-/// What every slot of an output holds before the call.
-const BEFORE: u32 = 305_419_896;
 /// No second place.
 const NONE: u16 = 65_535;
 
@@ -29,35 +24,17 @@ fn pairs(l: usize, entries: &[(u32, u16, u16)]) -> Lists {
     lists
 }
 
-/// What these lists get with this room, and the output afterwards.
-fn judged(lists: &Lists, room: usize) -> (Result<Walked, Refusal>, Vec<u32>) {
-    let mut out = vec![BEFORE; room];
-    let answer = lists.pairs(&mut out);
-    (answer, out)
-}
-
-/// Holds the lists to this verdict and this build, with room for it and with more.
+/// Holds the lists to this verdict and this build, whatever the budget is.
 fn hold(lists: &Lists, verdict: Verdict, build: &[u32]) {
-    let m = lists.words.len();
-    let placements = 0;
-    for room in [m, m + 1, m + 5] {
-        let mut out = build.to_vec();
-        out.resize(room, BEFORE);
-        let walked = Walked {
-            verdict,
-            placements,
-        };
-        assert_eq!(judged(lists, room), (Ok(walked), out), "{lists:?}");
+    for budget in [0, 1, u32::MAX] {
+        let wanted = Found::new(verdict, 0, build);
+        assert_eq!(lists.find(budget), wanted, "{lists:?}");
     }
-    let (short, out) = judged(lists, m - 1);
-    assert_eq!((short, out), (Err(Reason::Room.at(0)), vec![BEFORE; m - 1]));
 }
 
 /// The builds of sound lists, if there are any.
 fn builds_of(lists: &Lists) -> Option<Builds> {
-    let profile = lists.given().profile(Kind::Pair, lists.l).unwrap();
-    let entries = lists.given().entries().map(|stored| stored.entry(&profile));
-    let entries: Vec<Entry> = entries.collect::<Result<_, _>>().unwrap();
+    let (profile, entries) = lists.admitted().expect("lists that are sound");
     builds(profile.l, &entries)
 }
 
@@ -72,39 +49,9 @@ fn hold_choices(lists: &Lists, choices: u32, build: &[u32]) {
     hold(lists, verdict, build);
 }
 
-/// What these lists are refused with, with ample room and with none; nothing may be changed.
-fn refusal(lists: &Lists) -> Option<Refusal> {
-    let (answer, out) = judged(lists, 700);
-    let (roomless, _) = judged(lists, 0);
-    match answer {
-        Ok(_) => assert_eq!(roomless, Err(Reason::Room.at(0))),
-        Err(_) => assert_eq!((out, roomless), (vec![BEFORE; 700], answer)),
-    }
-    answer.err()
-}
-
 /// The words of a sequence that is drawn from four letters.
 fn drawn(random: &mut Random, l: usize, m: usize) -> Vec<u32> {
     words_in(&sequence(random, l, m, 4), l)
-}
-
-#[test]
-fn the_small_tables() {
-    // AA 0, AC 1, AG 2, CA 4, GA 8; ACAGA has the words AC CA AG GA, and AGACA AG GA AC CA.
-    let p1 = pairs(2, &[(1, 0, 2), (4, 1, 3), (2, 0, 2), (8, 1, 3)]);
-    hold(&p1, Verdict::Several, &[1, 4, 2, 8]);
-    let p2 = pairs(2, &[(1, 0, NONE), (4, 1, 3), (2, 0, 2), (8, 1, 3)]);
-    hold(&p2, Verdict::Sole, &[1, 4, 2, 8]);
-    let p3 = pairs(2, &[(1, 2, NONE), (4, 1, 3), (2, 0, 2), (8, 1, 3)]);
-    hold(&p3, Verdict::Sole, &[2, 8, 1, 4]);
-    let p4 = pairs(2, &[(1, 0, NONE), (4, 1, 3), (2, 0, 2), (8, 1, NONE)]);
-    hold(&p4, Verdict::None, &[]);
-    let p5 = pairs(2, &[(0, 0, 1), (0, 0, 1)]);
-    hold(&p5, Verdict::Sole, &[0, 0]);
-    let p6 = pairs(2, &[(1, 0, NONE)]);
-    hold(&p6, Verdict::Sole, &[1]);
-    let p7 = pairs(2, &[(1, 1, NONE), (4, 1, NONE)]);
-    hold(&p7, Verdict::None, &[]);
 }
 
 #[test]
@@ -168,7 +115,7 @@ fn every_arrangement_of_small_cards() {
         let m = random.pick(&[1, 2, 3, 4, 5, 6, 7, 7, 8, 8]);
         let letters = random.between(1, 4);
         let lists = any_sound_pairs(&mut random, l, m, letters);
-        let wanted = arrangements::builds(&lists, Kind::Pair);
+        let wanted = arrangements::builds(&lists);
         let found = builds_of(&lists);
         let count = found.as_ref().map_or(0, |found| 1 << found.choices);
         assert_eq!(wanted.len(), count, "{lists:?}");
@@ -189,10 +136,9 @@ fn the_order_of_the_entries_does_not_matter() {
     for _ in 0..2000 {
         let m = random.between(1, 60);
         let mut lists = any_sound_pairs(&mut random, 2, m, 2);
-        let judgement = judged(&lists, m);
-        assert_eq!(judged(&lists, m), judgement);
+        let found = lists.find(0);
         shuffle(&mut random, &mut lists);
-        assert_eq!(judged(&lists, m), judgement, "{lists:?}");
+        assert_eq!(lists.find(0), found, "{lists:?}");
     }
 }
 
@@ -323,43 +269,4 @@ fn full_cards_of_one_word() {
         let lists = scattered(&mut random, 2, &[0; 504]);
         hold_choices(&lists, 0, &[0; 504]);
     }
-}
-
-#[test]
-fn lists_are_refused_as_by_the_writer() {
-    let mut random = Random::new(19);
-    for _ in 0..3000 {
-        let mut lists = any_pairs(&mut random);
-        lists.kind = 1;
-        let written = lists.write(&mut [0; 5000]).err();
-        assert_eq!(refusal(&lists), written);
-    }
-}
-
-#[test]
-fn the_order_of_the_refusals() {
-    let mut lists = Lists::sound(&mut Random::new(20), Kind::Pair, 3, 505);
-    (lists.words[0], lists.ones[0]) = (64, 505);
-    lists.twos.push(0);
-    lists.l = 13;
-    assert_eq!(refusal(&lists), Some(Reason::WordLength.at(0)));
-    lists.l = 1;
-    assert_eq!(refusal(&lists), Some(Reason::WordLength.at(0)));
-    lists.l = 3;
-    assert_eq!(refusal(&lists), Some(Reason::Lists.at(0)));
-    lists.twos.pop();
-    assert_eq!(refusal(&lists), Some(Reason::Count.at(0)));
-    assert_eq!(refusal(&Lists::empty(1, 3)), Some(Reason::Count.at(0)));
-    let mut lists = Lists::sound(&mut Random::new(21), Kind::Pair, 3, 504);
-    (lists.words[503], lists.twos[503]) = (64, 504);
-    (lists.words[2], lists.twos[2]) = (63, 504);
-    assert_eq!(refusal(&lists), Some(Reason::Places.at(2)));
-    (lists.ones[2], lists.twos[2]) = (0, 503);
-    assert_eq!(refusal(&lists), Some(Reason::Word.at(503)));
-    lists.words[503] = 63;
-    assert_eq!(refusal(&lists), Some(Reason::Places.at(503)));
-    lists.twos[503] = NONE;
-    lists.ones[503] = 503;
-    assert_eq!(refusal(&lists), None);
-    assert_eq!(judged(&lists, 503).0, Err(Reason::Room.at(0)));
 }

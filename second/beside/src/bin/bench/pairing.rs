@@ -1,55 +1,40 @@
-//! Pair lists on both sides, from short cards to full ones.
+//! Building from pair cards, from short ones to full ones.
 
 use std::hint::black_box;
 
-use beside::answers::WalkAnswer;
 use beside::{firmware, independent};
+use second::build::build;
 use second::cards::Random;
 use second::lists::Lists;
+use second::numbers::{MOST_ENTRIES, MOST_LETTERS};
 use second::pair_lists::{beside_two_rings, forced_up, scattered, with_choices};
 use second::spans::{sequence, shuffle, words_in};
 
-use crate::timing::{measure, Operation};
+use crate::timing::{Beside, Operation, ROUNDS};
 
 /// The entries of the cards, each twice as many as before.
 const COUNTS: [usize; 4] = [63, 126, 252, 504];
-/// The cards of each row, which are judged one after the other.
-const CARDS: usize = 8;
-/// The rounds that each side takes.
-const ROUNDS: usize = 41;
+/// The entries of all cards of a row together, which are built from one after the other.
+///
+/// They are as many in each row: a processor learns the turns that a few short
+/// cards take, and would make these look cheaper than long ones.
+const ENTRIES: usize = 8 * 504;
+/// Room for any build.
+const ROOM: usize = MOST_ENTRIES as usize + MOST_LETTERS as usize - 1;
+/// The budget, which does not matter to a pair card.
+const BUDGET: u32 = 0;
 
 /// A sort of cards: its name, and how one of so many entries is drawn.
 type Sort = (&'static str, fn(&mut Random, usize) -> Lists);
 
 /// Cards of one sort and one number of entries.
-struct Sample {
+pub struct Sample {
     name: String,
-    m: usize,
-    cards: Vec<Lists>,
-}
-
-/// Times the verdicts on pair lists, and says whether the two sides agree.
-pub fn pair_lists(seed: u64) -> bool {
-    let samples = samples(&mut Random::new(seed));
-    // A time means nothing where the two do not agree.
-    for sample in &samples {
-        if let Some(lists) = sample.cards.iter().find(|lists| !is_agreed_on(lists)) {
-            println!("the two differ on pair lists {lists:?}");
-            return false;
-        }
-    }
-    println!(
-        "\n{:<34} {:>12} {:>12} {:>12} {:>8}",
-        "pair lists; ns are per entry", "library, us", "library, ns", "second, ns", "ratio"
-    );
-    for sample in &samples {
-        line(sample);
-    }
-    true
+    cards: Vec<Vec<u8>>,
 }
 
 /// The cards that are timed, each sort with each number of entries.
-fn samples(random: &mut Random) -> Vec<Sample> {
+pub fn samples(random: &mut Random) -> Vec<Sample> {
     let sorts: [Sort; 5] = [
         ("random", at_random),
         ("many choices", |random, m| with_choices(random, 2, m, 2)),
@@ -62,14 +47,17 @@ fn samples(random: &mut Random) -> Vec<Sample> {
         ("beside two long rings", |_, m| beside_two_rings(m)),
     ];
     let mut samples = Vec::new();
-    for (sort, card) in sorts {
+    for (sort, draw) in sorts {
         for m in COUNTS {
-            let mut cards: Vec<Lists> = (0..CARDS).map(|_| card(random, m)).collect();
-            for lists in &mut cards {
-                shuffle(random, lists);
-            }
-            let name = format!("{sort}, m = {m}");
-            samples.push(Sample { name, m, cards });
+            let cards = (0..ENTRIES / m).map(|_| {
+                let mut lists = draw(random, m);
+                shuffle(random, &mut lists);
+                lists.card().expect("sound lists")
+            });
+            samples.push(Sample {
+                cards: cards.collect(),
+                name: format!("build, pairs, {sort}, m = {m}"),
+            });
         }
     }
     samples
@@ -86,61 +74,46 @@ fn at_random(random: &mut Random, m: usize) -> Lists {
     scattered(random, 4, &words)
 }
 
-/// Says whether the library answers as `second` does.
-fn is_agreed_on(lists: &Lists) -> bool {
-    let outcome = |judge: fn(&Lists, &mut [u32]) -> WalkAnswer| {
-        let mut out = vec![0; lists.words.len()];
-        let answer = judge(lists, &mut out);
-        (answer, out)
-    };
-    outcome(library_pairs) == outcome(independent::pair_lists)
+/// The builds from these cards, where the two sides agree on them.
+pub fn operations(samples: &[Sample]) -> Result<Vec<Operation<'_>>, String> {
+    // A time means nothing where the two do not agree.
+    for sample in samples {
+        if !sample.cards.iter().all(|card| is_agreed_on(card)) {
+            return Err(format!("the two differ on a card of: {}", sample.name));
+        }
+    }
+    Ok(samples.iter().map(operation).collect())
 }
 
-/// Has the library judge these lists.
-fn library_pairs(lists: &Lists, out: &mut [u32]) -> WalkAnswer {
-    let Lists {
-        l,
-        words,
-        ones,
-        twos,
-        ..
-    } = lists;
-    firmware::pairs(*l, words, ones, twos, out)
+/// Says whether the library answers as `second` does, and with a build.
+fn is_agreed_on(card: &[u8]) -> bool {
+    let mut by_library = [0; ROOM];
+    let mut by_second = [0; ROOM];
+    let library = firmware::build(card, BUDGET, &mut by_library);
+    let second = independent::build(card, BUDGET, &mut by_second);
+    library == second && by_library == by_second && library.length > 0
 }
 
-/// Judging the cards of a sample, one after the other.
-fn judge(sample: &Sample) -> Operation<'_> {
-    let mut for_library = vec![0; sample.m];
-    let mut for_second = for_library.clone();
+/// Building from the cards of a sample, one after the other.
+fn operation(sample: &Sample) -> Operation<'_> {
+    let mut for_library = [0; ROOM];
+    let mut for_second = [0; ROOM];
     Operation {
         name: sample.name.clone(),
+        beside: Beside::Second,
+        rounds: ROUNDS,
+        calls: sample.cards.len(),
         library: Box::new(move || {
-            for lists in &sample.cards {
+            for card in &sample.cards {
                 let out = black_box(&mut for_library);
-                _ = black_box(library_pairs(black_box(lists), out));
+                _ = black_box(firmware::build(black_box(card), BUDGET, out));
             }
         }),
         other: Box::new(move || {
-            for lists in &sample.cards {
+            for card in &sample.cards {
                 let out = black_box(&mut for_second);
-                _ = black_box(black_box(lists).pairs(out));
+                _ = black_box(build(black_box(card), BUDGET, out));
             }
         }),
     }
-}
-
-/// Times a sample and prints the microseconds per call and the nanoseconds per entry.
-fn line(sample: &Sample) {
-    let mut operation = judge(sample);
-    let (library, second) = measure(&mut operation, ROUNDS);
-    let per_call = |time: f64| time / CARDS as f64;
-    let per_entry = |time: f64| per_call(time) / sample.m as f64;
-    println!(
-        "{:<34} {:>12.2} {:>12.2} {:>12.2} {:>8.2}",
-        operation.name,
-        per_call(library) / 1000.0,
-        per_entry(library),
-        per_entry(second),
-        library / second
-    );
 }

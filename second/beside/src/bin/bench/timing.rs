@@ -1,39 +1,55 @@
 //! Medians of the times of two sides.
 //!
 //! The two take turns in rounds within one run, so that both meet the same
-//! moods of the machine.
+//! moods of the machine. Rounds are short and many, so that those in which
+//! another program has the processor are few and far from the middle.
 
 use std::time::{Duration, Instant};
 
 /// The least time that a round is to last.
-const ROUND: Duration = Duration::from_millis(4);
+const ROUND: Duration = Duration::from_micros(300);
+/// The rounds that each side takes, where no call is much longer than that.
+pub const ROUNDS: usize = 301;
 
-/// One operation: its name, and one call on each side.
+/// What the library is set beside.
+#[derive(Clone, Copy, PartialEq, Eq)]
+pub enum Beside {
+    Second,
+    C,
+}
+
+/// One operation: its name, and calls on each side.
 pub struct Operation<'a> {
     /// What is called.
     pub name: String,
-    /// A call of the library.
+    /// What the library is set beside.
+    pub beside: Beside,
+    /// The rounds that each side takes, of which there is an odd number.
+    pub rounds: usize,
+    /// The calls that each of the two makes when it is run once.
+    pub calls: usize,
+    /// Calls of the library.
     pub library: Box<dyn FnMut() + 'a>,
-    /// The same call on the other side.
+    /// The same calls on the other side.
     pub other: Box<dyn FnMut() + 'a>,
 }
 
-/// The time that this many calls take.
-fn time(call: &mut dyn FnMut(), calls: u32) -> Duration {
+/// The time that running this so many times takes.
+fn time(run: &mut dyn FnMut(), times: u32) -> Duration {
     let start = Instant::now();
-    for _ in 0..calls {
-        call();
+    for _ in 0..times {
+        run();
     }
     start.elapsed()
 }
 
-/// The number of calls that last at least one round.
-fn calls_per_round(call: &mut dyn FnMut()) -> u32 {
-    let mut calls = 1;
-    while time(call, calls) < ROUND {
-        calls *= 2;
+/// The number of times that last at least one round.
+fn times_per_round(run: &mut dyn FnMut()) -> u32 {
+    let mut times = 1;
+    while time(run, times) < ROUND {
+        times *= 2;
     }
-    calls
+    times
 }
 
 /// The middle one of the times, of which there is an odd number.
@@ -42,23 +58,66 @@ fn median(mut times: Vec<f64>) -> f64 {
     times[times.len() / 2]
 }
 
-/// The medians of the nanoseconds per call over these rounds, of the library and of the other side.
-pub fn measure(operation: &mut Operation, rounds: usize) -> (f64, f64) {
-    let library_calls = calls_per_round(&mut operation.library);
-    let other_calls = calls_per_round(&mut operation.other);
-    let per_call =
-        |call: &mut dyn FnMut(), calls: u32| time(call, calls).as_nanos() as f64 / f64::from(calls);
-    let mut library = Vec::with_capacity(rounds);
-    let mut other = Vec::with_capacity(rounds);
-    for round in 0..rounds {
+/// The medians of the nanoseconds per call, of the library and of the other side.
+fn measure(operation: &mut Operation) -> (f64, f64) {
+    let library_times = times_per_round(&mut operation.library);
+    let other_times = times_per_round(&mut operation.other);
+    let calls = operation.calls as f64;
+    let per_call = |run: &mut dyn FnMut(), times: u32| {
+        time(run, times).as_nanos() as f64 / f64::from(times) / calls
+    };
+    let mut library = Vec::with_capacity(operation.rounds);
+    let mut other = Vec::with_capacity(operation.rounds);
+    for round in 0..operation.rounds {
         // Each side goes first in every other round.
         if round % 2 == 0 {
-            library.push(per_call(&mut operation.library, library_calls));
-            other.push(per_call(&mut operation.other, other_calls));
+            library.push(per_call(&mut operation.library, library_times));
+            other.push(per_call(&mut operation.other, other_times));
         } else {
-            other.push(per_call(&mut operation.other, other_calls));
-            library.push(per_call(&mut operation.library, library_calls));
+            other.push(per_call(&mut operation.other, other_times));
+            library.push(per_call(&mut operation.library, library_times));
         }
     }
     (median(library), median(other))
+}
+
+/// The first line of the table.
+pub fn header() -> String {
+    columns("what", "library", "second or C", "ratio", "of C's speed")
+}
+
+/// Times an operation and gives its line.
+pub fn line(operation: &mut Operation) -> String {
+    let (library, other) = measure(operation);
+    let ratio = format!("{:.2}", library / other);
+    // A speed beside C, where the ratio is one of times.
+    let (other_time, speed) = match operation.beside {
+        Beside::Second => (shown(other), String::new()),
+        Beside::C => (
+            format!("C {}", shown(other)),
+            format!("{:.2}", other / library),
+        ),
+    };
+    columns(
+        &operation.name,
+        &shown(library),
+        &other_time,
+        &ratio,
+        &speed,
+    )
+}
+
+/// The columns of a line.
+fn columns(what: &str, library: &str, other: &str, ratio: &str, speed: &str) -> String {
+    let line = format!("{what:<46} {library:>10} {other:>13} {ratio:>7} {speed:>13}");
+    line.trim_end().to_string()
+}
+
+/// A time in nanoseconds, in a unit that keeps it short.
+fn shown(nanoseconds: f64) -> String {
+    match nanoseconds {
+        time if time < 1e3 => format!("{time:.1} ns"),
+        time if time < 1e6 => format!("{:.2} us", time / 1e3),
+        time => format!("{:.2} ms", time / 1e6),
+    }
 }

@@ -1,67 +1,50 @@
-//! The walk of the library beside the walk in plain C, on the same lists.
+//! Building from span cards beside the walk in plain C, which is given the lists.
 
 use std::hint::black_box;
 
-use beside::answers::WalkAnswer;
-use beside::plain::{Sound, Tables};
+use beside::answers::BuildAnswer;
+use beside::plain::Sound;
 use beside::{firmware, independent};
 use second::cards::Random;
+use second::letters::spell;
 use second::lists::Lists;
 use second::spans::{misread, widest};
+use second::verdict::Verdict;
 
-use crate::timing::{measure, Operation};
+use crate::timing::{Beside, Operation, ROUNDS};
 
 /// The entries of each card.
 const M: usize = 504;
 /// The letters that the sequences are made of; few of them make many equal words.
 const LETTERS: usize = 2;
-/// The placements that a hard card takes at least.
-const HARD: u32 = 10_000_000;
-/// The budget of each walk that is timed.
-const BUDGET: u32 = 20_000_000;
+/// The budget of each long walk that is timed, which does not settle it.
+const BUDGET: u32 = 5_000_000;
 /// The budget of the walks that `second` is asked to agree with.
 const AGREED: u32 = 50_000;
-/// The verdict of a walk that its budget ends.
-const UNSETTLED: usize = 4;
 /// The hard cards for each number of letters.
 const CARDS: usize = 2;
-/// The rounds that each side takes on a hard card.
-const WALK_ROUNDS: usize = 15;
-/// The rounds that each side takes to prepare tables.
-const TABLE_ROUNDS: usize = 41;
+/// The rounds that each side takes on a long walk.
+const LONG_ROUNDS: usize = 31;
 
-/// Times the walks, and says whether all sides agree.
-pub fn walks(seed: u64) -> bool {
-    let mut random = Random::new(seed);
-    let letters = [2, 3, 4];
-    let hard = letters.map(|l| [(); CARDS].map(|()| hard_card(&mut random, l)));
-    let long = card(&mut random, 12, 4);
-    let all = hard.iter().flatten().chain([&long]);
-    for lists in all {
-        if !is_agreed_on(lists) {
-            println!("the sides differ on a walk over {lists:?}");
-            return false;
+/// A span card, what it lists, and the budget that it is walked with.
+pub struct Sample {
+    card: Vec<u8>,
+    lists: Lists,
+    budget: u32,
+}
+
+/// Hard cards of words of 2, 3 and 4 letters, and cards whose walk is only prepared.
+pub fn samples(random: &mut Random) -> Vec<Sample> {
+    let mut samples = Vec::new();
+    for l in [2, 3, 4] {
+        for _ in 0..CARDS {
+            samples.push(Sample::new(hard_card(random, l), BUDGET));
         }
     }
-    println!(
-        "\n{:<34} {:>12} {:>12} {:>8} {:>12}",
-        "walk, m = 504, spans 8 wide", "library, M/s", "C, M/s", "speed", "placements"
-    );
-    for (l, cards) in letters.iter().zip(&hard) {
-        for lists in cards {
-            walk_line(*l, lists);
-        }
+    for (l, letters) in [(2, LETTERS), (12, 4)] {
+        samples.push(Sample::new(card(random, l, letters), 0));
     }
-    println!(
-        "\n{:<34} {:>12} {:>12} {:>8}",
-        "prepare tables, m = 504", "library, us", "C, us", "speed"
-    );
-    for lists in [&hard[0][0], &hard[1][0], &hard[2][0], &long] {
-        for operation in [budget_of_nothing(lists), tables_alone(lists)] {
-            table_line(operation);
-        }
-    }
-    true
+    samples
 }
 
 /// Lists of words of l letters in the widest spans, for sequences of this many different letters.
@@ -72,42 +55,15 @@ fn card(random: &mut Random, l: usize, letters: usize) -> Lists {
     widest(random, l, &words)
 }
 
-/// Draws cards until one takes more placements than a hard card does at least.
+/// Draws cards until one is not settled by the budget.
 fn hard_card(random: &mut Random, l: usize) -> Lists {
     loop {
         let lists = card(random, l, LETTERS);
-        if c_walk(&lists, HARD, &mut [0; M]).verdict == UNSETTLED {
+        let (verdict, _) = sound(&lists).walk(BUDGET, &mut [0; M]);
+        if verdict == Verdict::Unsettled {
             return lists;
         }
     }
-}
-
-/// Says whether the library answers as C does with the whole budget, and as `second` with a part.
-fn is_agreed_on(lists: &Lists) -> bool {
-    let outcome = |walk: fn(&Lists, u32, &mut [u32]) -> WalkAnswer, budget| {
-        let mut out = [0; M];
-        let answer = walk(lists, budget, &mut out);
-        (answer, out)
-    };
-    outcome(library_walk, BUDGET) == outcome(c_walk, BUDGET)
-        && outcome(library_walk, AGREED) == outcome(independent::walk_lists, AGREED)
-}
-
-/// Has the library walk over these lists.
-fn library_walk(lists: &Lists, budget: u32, out: &mut [u32]) -> WalkAnswer {
-    let Lists {
-        l,
-        words,
-        ones,
-        twos,
-        ..
-    } = lists;
-    firmware::walk(*l, words, ones, twos, budget, out)
-}
-
-/// Has the C code walk over these lists.
-fn c_walk(lists: &Lists, budget: u32, out: &mut [u32]) -> WalkAnswer {
-    sound(lists).walk(budget, out)
 }
 
 /// The lists as the C code takes them.
@@ -115,64 +71,88 @@ fn sound(lists: &Lists) -> Sound<'_> {
     Sound::new(lists).expect("lists that are drawn sound")
 }
 
-/// Walking over these lists with this budget.
-fn walk(name: String, lists: &Lists, budget: u32) -> Operation<'_> {
-    let sound = sound(lists);
-    let mut for_library = vec![0; M];
-    let mut for_c = vec![0; M];
-    Operation {
-        name,
-        library: Box::new(move || {
-            let out = black_box(&mut for_library);
-            _ = black_box(library_walk(black_box(lists), budget, out));
-        }),
-        other: Box::new(move || {
-            let out = black_box(&mut for_c);
-            _ = black_box(black_box(sound).walk(budget, out));
-        }),
+impl Sample {
+    /// The card of these lists, to be walked with this budget.
+    fn new(lists: Lists, budget: u32) -> Sample {
+        let card = lists.card().expect("lists that are drawn sound");
+        Sample {
+            card,
+            lists,
+            budget,
+        }
+    }
+
+    /// Says whether the library answers as C does with the whole budget, and as `second` with a part.
+    fn is_agreed_on(&self) -> bool {
+        let part = self.budget.min(AGREED);
+        let mut out = vec![0; self.lists.build_length()];
+        let second = independent::build(&self.card, part, &mut out);
+        self.by_library(part) == (second, out) && self.by_library(self.budget) == self.by_c()
+    }
+
+    /// What the library answers with this budget, and the output after it.
+    fn by_library(&self, budget: u32) -> (BuildAnswer, Vec<u8>) {
+        let mut out = vec![0; self.lists.build_length()];
+        let answer = firmware::build(&self.card, budget, &mut out);
+        (answer, out)
+    }
+
+    /// What C answers with the whole budget, put as the library puts it.
+    fn by_c(&self) -> (BuildAnswer, Vec<u8>) {
+        let mut words = [0; M];
+        let (verdict, placements) = sound(&self.lists).walk(self.budget, &mut words);
+        let mut out = vec![0; self.lists.build_length()];
+        let (number, length) = match verdict {
+            Verdict::Sole => (1, out.len()),
+            Verdict::Several => (2, out.len()),
+            Verdict::None => (3, 0),
+            Verdict::Unsettled => (4, 0),
+        };
+        let letters = spell(self.lists.l as u8, &words);
+        out[..length].copy_from_slice(&letters[..length]);
+        let answer = BuildAnswer {
+            verdict: number,
+            length,
+            placements: placements as usize,
+            ..BuildAnswer::default()
+        };
+        (answer, out)
+    }
+
+    /// Building from the card, and walking over the lists in C.
+    fn operation(&self) -> Operation<'_> {
+        let (what, rounds) = match self.budget {
+            0 => ("only prepared".to_string(), ROUNDS),
+            budget => (format!("{budget} placements"), LONG_ROUNDS),
+        };
+        let (card, budget, sound) = (&self.card, self.budget, sound(&self.lists));
+        let mut for_library = vec![0; self.lists.build_length()];
+        let mut for_c = [0; M];
+        Operation {
+            name: format!("walk, l = {}, m = {M}, {what}", self.lists.l),
+            beside: Beside::C,
+            rounds,
+            calls: 1,
+            library: Box::new(move || {
+                let out = black_box(&mut for_library);
+                _ = black_box(firmware::build(black_box(card), budget, out));
+            }),
+            other: Box::new(move || {
+                let out = black_box(&mut for_c);
+                _ = black_box(black_box(sound).walk(budget, out));
+            }),
+        }
     }
 }
 
-/// A call with budget 0, which prepares everything and places nothing, on both sides.
-fn budget_of_nothing(lists: &Lists) -> Operation<'_> {
-    walk(format!("words of {}, walk of budget 0", lists.l), lists, 0)
-}
-
-/// The same call of the library beside the tables alone in C.
-fn tables_alone(lists: &Lists) -> Operation<'_> {
-    let sound = sound(lists);
-    let mut tables = Box::new(Tables::empty());
-    Operation {
-        name: format!("words of {}, tables alone in C", lists.l),
-        other: Box::new(move || black_box(sound).prepare(black_box(&mut tables))),
-        ..budget_of_nothing(lists)
+/// The walks on these cards, where all sides agree on them.
+pub fn operations(samples: &[Sample]) -> Result<Vec<Operation<'_>>, String> {
+    // A time means nothing where they do not agree.
+    if let Some(sample) = samples.iter().find(|sample| !sample.is_agreed_on()) {
+        return Err(format!(
+            "the sides differ on a walk over {:?}",
+            sample.lists
+        ));
     }
-}
-
-/// Times a walk and prints the millions of placements per second.
-fn walk_line(l: usize, lists: &Lists) {
-    let placements = c_walk(lists, BUDGET, &mut [0; M]).placements;
-    let mut operation = walk(format!("words of {l} letters"), lists, BUDGET);
-    let (library, c) = measure(&mut operation, WALK_ROUNDS);
-    // Placements per nanosecond are thousands of millions per second.
-    let speed = |time: f64| placements as f64 / time * 1000.0;
-    println!(
-        "{:<34} {:>12.1} {:>12.1} {:>8.2} {placements:>12}",
-        operation.name,
-        speed(library),
-        speed(c),
-        c / library
-    );
-}
-
-/// Times a call and prints its microseconds.
-fn table_line(mut operation: Operation) {
-    let (library, c) = measure(&mut operation, TABLE_ROUNDS);
-    println!(
-        "{:<34} {:>12.2} {:>12.2} {:>8.2}",
-        operation.name,
-        library / 1000.0,
-        c / 1000.0,
-        c / library
-    );
+    Ok(samples.iter().map(Sample::operation).collect())
 }

@@ -3,6 +3,7 @@
 //! Where a case is made for one rule, the answer is stated beside it as the
 //! scope document gives it, and the program stops if `second` says otherwise.
 
+mod building;
 mod faults;
 mod pairing;
 mod several;
@@ -52,8 +53,7 @@ impl Cases {
         cases.many_faults();
         cases.no_cards();
         cases.writing();
-        cases.walking();
-        cases.pairing();
+        cases.building();
         cases.record
     }
 

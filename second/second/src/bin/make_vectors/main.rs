@@ -29,6 +29,9 @@ fn main() -> ExitCode {
     for (name, count) in record.counts() {
         println!("{name} {} of which {} refused", count.all, count.refused);
     }
+    for (name, count) in record.verdicts() {
+        println!("{name} {count}");
+    }
     println!("total {}", record.total());
     println!("placements {}", record.placements());
     ExitCode::SUCCESS

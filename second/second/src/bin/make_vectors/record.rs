@@ -1,7 +1,6 @@
 //! The two files of the vectors as they grow, and the words of each answer.
 
-mod pairing;
-mod walking;
+mod building;
 mod writing;
 
 use second::block;
@@ -10,21 +9,20 @@ use second::lists::{Lists, LONGEST_LIST};
 use second::profile::Profile;
 use second::reader::{self, Head};
 use second::refusal::Refusal;
-use second::verdict::Walked;
+use second::verdict::Verdict;
 
-pub use pairing::pairs;
-pub use walking::{walk, MOST_PLACEMENTS};
+pub use building::{LONGEST_OUTPUT, MOST_PLACEMENTS};
 pub use writing::{BYTE_BEFORE, LONGEST_ROOM};
 
 /// The most bytes that a card of the vectors may have.
 const LONGEST_CARD: usize = 6144;
 /// What every slot of the words holds before the call.
-pub const WORD_BEFORE: u32 = 305_419_896;
+const WORD_BEFORE: u32 = 305_419_896;
 /// What every slot of the places holds before the call.
 const PLACE_BEFORE: u16 = 4660;
 
 /// The names of the operations, in the order of their counts.
-const OPERATIONS: [&str; 10] = [
+const OPERATIONS: [&str; 9] = [
     "admit",
     "entry",
     "step",
@@ -33,12 +31,16 @@ const OPERATIONS: [&str; 10] = [
     "lists",
     "write",
     "again",
-    "walk",
-    "pairs",
+    "build",
 ];
 
-/// The answer to a call that looks for builds, and the whole output after it.
-pub type Outcome = (Result<Walked, Refusal>, Vec<u32>);
+/// The verdicts, in the order of their counts.
+const VERDICTS: [Verdict; 4] = [
+    Verdict::Sole,
+    Verdict::Several,
+    Verdict::None,
+    Verdict::Unsettled,
+];
 
 /// How often an operation was recorded.
 #[derive(Clone, Copy, Default)]
@@ -56,6 +58,7 @@ pub struct Record {
     stdout: String,
     card: Vec<u8>,
     counts: [Count; OPERATIONS.len()],
+    verdicts: [usize; VERDICTS.len()],
     placements: u64,
 }
 
@@ -78,6 +81,12 @@ impl Record {
     /// The number of operation records.
     pub fn total(&self) -> usize {
         self.counts.iter().map(|count| count.all).sum()
+    }
+
+    /// Each verdict's name with the number of builds that came to it.
+    pub fn verdicts(&self) -> impl Iterator<Item = (&'static str, usize)> + '_ {
+        let names = VERDICTS.into_iter().map(Verdict::name);
+        names.zip(self.verdicts)
     }
 
     /// The placements of all walks.

@@ -6,7 +6,7 @@ use second::numbers::{BLOCK, CHECK_A};
 use super::{Cases, KINDS};
 
 /// One fault: the refusal that it gives by itself, and how it is made.
-type Fault = ((u8, usize), fn(&mut Vec<u8>));
+pub(super) type Fault = ((u8, usize), fn(&mut Vec<u8>));
 
 impl Cases {
     /// Pairs and triples from a ladder of faults: the one that is tested first decides.
@@ -24,8 +24,15 @@ impl Cases {
         }
     }
 
-    /// Makes the chosen faults of the ladder, the lowest first, on one card.
+    /// Records a card with the chosen faults of the ladder, of which the lowest comes first.
     fn together(&mut self, ladder: &[Fault], chosen: &[usize]) {
+        let card = self.faulty(ladder, chosen);
+        let (number, place) = ladder[chosen[0]].0;
+        self.refused(&card, number, place);
+    }
+
+    /// A card on which the chosen faults of the ladder are made.
+    pub(super) fn faulty(&mut self, ladder: &[Fault], chosen: &[usize]) -> Vec<u8> {
         let kind = self.random.pick(&KINDS);
         let mut card = self.sound(kind, 3, 65);
         for &rung in chosen {
@@ -38,8 +45,7 @@ impl Cases {
                 ladder[rung].1(&mut card);
             }
         }
-        let (number, place) = ladder[chosen[0]].0;
-        self.refused(&card, number, place);
+        card
     }
 
     /// Cards with several random faults; the reader alone says what they get.
@@ -79,7 +85,7 @@ impl Cases {
 ///
 /// No fault hides one that comes before it, so that of any choice of them the
 /// lowest rung decides.
-fn ladder() -> Vec<Fault> {
+pub(super) fn ladder() -> Vec<Fault> {
     fn spoil_check(card: &mut [u8], k: usize) {
         card[k * BLOCK + CHECK_A] = card[k * BLOCK + CHECK_A].wrapping_add(1);
     }

@@ -1,20 +1,17 @@
 //! Sound cards: the small tables, random entries, and lists for them.
 
-use second::cards::{any_sound_card, put_right, Draft};
-use second::entry::Stored;
+use second::cards::{any_sound_card, put_right};
 use second::lists::LONGEST_LIST;
-use second::numbers::{BLOCK, NO_PLACE};
-use second::profile::Kind;
+use second::numbers::BLOCK;
+use second::tables::tables;
 
 use super::{Cases, KINDS};
-
-/// A small table: its kind, and each entry's word, place one and place two.
-type Table = (Kind, &'static [(u32, u16, u16)]);
 
 impl Cases {
     /// The small tables of the scope document, each entry stepped through.
     pub(super) fn tables(&mut self) {
-        for draft in small_tables() {
+        for table in tables() {
+            let draft = table.lists.draft().expect("lists of one length");
             self.admitted(&draft.lay_out());
             for i in 0..=u64::from(draft.m) {
                 _ = self.record.entry(i);
@@ -91,37 +88,4 @@ impl Cases {
             }
         }
     }
-}
-
-/// The small tables of the scope document: P1 to P7, then S1 to S5.
-pub(super) fn small_tables() -> [Draft; 12] {
-    const NONE: u16 = NO_PLACE;
-    // AA 0, AC 1, AG 2, CA 4, GA 8.
-    let tables: [Table; 12] = [
-        (Kind::Pair, &[(1, 0, 2), (4, 1, 3), (2, 0, 2), (8, 1, 3)]),
-        (Kind::Pair, &[(1, 0, NONE), (4, 1, 3), (2, 0, 2), (8, 1, 3)]),
-        (Kind::Pair, &[(1, 2, NONE), (4, 1, 3), (2, 0, 2), (8, 1, 3)]),
-        (
-            Kind::Pair,
-            &[(1, 0, NONE), (4, 1, 3), (2, 0, 2), (8, 1, NONE)],
-        ),
-        (Kind::Pair, &[(0, 0, 1), (0, 0, 1)]),
-        (Kind::Pair, &[(1, 0, NONE)]),
-        (Kind::Pair, &[(1, 1, NONE), (4, 1, NONE)]),
-        (Kind::Span, &[(1, 0, 2), (4, 1, 3), (2, 0, 2), (8, 1, 3)]),
-        (Kind::Span, &[(1, 0, 0), (4, 1, 3), (2, 1, 2), (8, 1, 3)]),
-        (Kind::Span, &[(1, 0, 0), (4, 1, 1), (2, 2, 3), (8, 1, 2)]),
-        (Kind::Span, &[(0, 0, 2), (0, 0, 1), (0, 0, 1)]),
-        (Kind::Span, &[(1, 0, 0), (4, 0, 0)]),
-    ];
-    tables.map(|(kind, entries)| Draft {
-        form: 1,
-        kind: kind.number(),
-        l: 2,
-        m: entries.len() as u16,
-        entries: entries
-            .iter()
-            .map(|&(word, one, two)| Stored { word, one, two })
-            .collect(),
-    })
 }

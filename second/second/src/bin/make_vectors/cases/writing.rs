@@ -8,13 +8,10 @@ use second::entry::Stored;
 use second::lists::{any_room, Lists};
 use second::numbers::{BLOCK, NO_PLACE};
 use second::profile::Kind;
+use second::tables::{tables, Table};
 
-use super::sound::small_tables;
 use super::{Cases, KINDS};
 use crate::record::{BYTE_BEFORE, LONGEST_ROOM};
-
-pub(super) use faults::short_lengths;
-pub(super) use orders::{ladder, Fault};
 
 impl Cases {
     /// All cases of the writer.
@@ -34,8 +31,7 @@ impl Cases {
 
     /// The small tables, with the room that they take and with more.
     fn written_tables(&mut self) {
-        for draft in small_tables() {
-            let lists = Lists::of_draft(&draft);
+        for Table { lists, .. } in tables() {
             for room in [1024, 1025, 1600, LONGEST_ROOM] {
                 self.written(&lists, room);
             }
@@ -144,6 +140,6 @@ impl Cases {
 }
 
 /// Says whether every byte is as it was before the call.
-fn is_untouched(out: &[u8]) -> bool {
+pub(super) fn is_untouched(out: &[u8]) -> bool {
     out.iter().all(|&byte| byte == BYTE_BEFORE)
 }

@@ -4,10 +4,9 @@ use second::entry::Stored;
 use second::lists::Lists;
 use second::numbers::SPAN;
 use second::spans::{shuffle, words_in};
-use second::verdict::{Verdict, Walked};
+use second::verdict::{Found, Verdict};
 
 use crate::cases::Cases;
-use crate::record::walk;
 
 /// The most placements that such a card is walked for.
 const MOST: u32 = 5000;
@@ -51,9 +50,9 @@ impl Cases {
     /// Records a card that is Sole, with its entries in random order.
     fn in_any_order(&mut self, mut lists: Lists, build: &[u32]) {
         shuffle(&mut self.random, &mut lists);
-        let (answer, _) = walk(&lists, MOST, build.len());
-        let walked = answer.expect("lists that are sound");
-        self.at_its_own_count(&lists, walked, build);
+        let placements = lists.find(MOST).placements;
+        let sole = Found::new(Verdict::Sole, placements, build);
+        self.at_its_own_count(&lists, &sole);
     }
 }
 
@@ -70,7 +69,6 @@ fn windows(words: &[u32], l: usize, wide: usize) -> Lists {
 
 /// Says whether these words are found to be the one build.
 fn is_sole(lists: &Lists, build: &[u32]) -> bool {
-    let (answer, out) = walk(lists, MOST, build.len());
-    let sole = |walked: Walked| walked.verdict == Verdict::Sole;
-    answer.is_ok_and(sole) && out == build
+    let found = lists.find(MOST);
+    found.verdict == Verdict::Sole && found.words == build
 }

@@ -2,7 +2,7 @@
 
 use second::lists::Lists;
 use second::spans::{around, sequence, shuffle, widest, with_build, words_in};
-use second::verdict::{Verdict, Walked};
+use second::verdict::{Found, Verdict};
 
 use crate::cases::Cases;
 
@@ -69,10 +69,7 @@ impl Cases {
 
     /// Records lists that must have this build alone, without a placement in vain.
     fn sole(&mut self, lists: &Lists, m: usize, build: &[u32]) {
-        let sole = Walked {
-            verdict: Verdict::Sole,
-            placements: m as u32,
-        };
-        self.at_its_own_count(lists, sole, build);
+        let sole = Found::new(Verdict::Sole, m as u32, build);
+        self.at_its_own_count(lists, &sole);
     }
 }

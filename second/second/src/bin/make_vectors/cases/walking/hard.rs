@@ -1,11 +1,11 @@
 //! Span cards that take many placements: wide spans, and few different words.
 
 use second::lists::Lists;
-use second::spans::{misread, sequence, widest, words_in};
+use second::spans::{misread, sequence, widest, without_end, words_in};
 use second::verdict::Verdict;
 
 use crate::cases::Cases;
-use crate::record::{walk, MOST_PLACEMENTS};
+use crate::record::MOST_PLACEMENTS;
 
 /// A draw of hard cards: l, m, the different letters, and the verdict that is looked for.
 type Draw = (usize, usize, usize, Verdict);
@@ -42,9 +42,8 @@ impl Cases {
                 _ => words_in(&sequence(&mut self.random, l, m, letters), l),
             };
             let lists = widest(&mut self.random, l, &words);
-            let (answer, _) = walk(&lists, 10 * low, m);
-            let walked = answer.expect("lists that are sound");
-            if walked.verdict == wanted && walked.placements >= low {
+            let found = lists.find(10 * low);
+            if found.verdict == wanted && found.placements >= low {
                 _ = self.around_its_own_count(&lists, MOST_PLACEMENTS);
                 return;
             }
@@ -54,7 +53,7 @@ impl Cases {
     /// A last word that no other overlaps: the budget ends the walk before all is tried.
     pub(super) fn beyond_the_budget(&mut self) {
         for (l, m) in [(2, 60), (3, 200), (2, 504), (3, 504), (4, 504), (4, 504)] {
-            let lists = self.without_end(l, m);
+            let lists = self.drawn_without_end(l, m);
             for budget in [0, 1, m as u32, 4000, MOST_PLACEMENTS] {
                 self.unsettled(&lists, budget);
             }
@@ -62,14 +61,10 @@ impl Cases {
     }
 
     /// Draws such a card until the most placements of a record do not settle it.
-    fn without_end(&mut self, l: usize, m: usize) -> Lists {
+    fn drawn_without_end(&mut self, l: usize, m: usize) -> Lists {
         loop {
-            let mut words = words_in(&sequence(&mut self.random, l, m, 2), l);
-            words[m - 1] = (1 << (2 * l)) - 1;
-            let lists = widest(&mut self.random, l, &words);
-            let (answer, _) = walk(&lists, MOST_PLACEMENTS, m);
-            let walked = answer.expect("lists that are sound");
-            if walked.verdict == Verdict::Unsettled {
+            let lists = without_end(&mut self.random, l, m);
+            if lists.find(MOST_PLACEMENTS).verdict == Verdict::Unsettled {
                 return lists;
             }
         }

@@ -4,7 +4,7 @@ use second::entry::Stored;
 use second::lists::Lists;
 use second::numbers::SPAN;
 use second::spans::{around, sequence, shuffle, with_build, words_in};
-use second::verdict::{Verdict, Walked};
+use second::verdict::{Found, Verdict};
 
 use crate::cases::Cases;
 
@@ -62,11 +62,7 @@ impl Cases {
                 let (word, one, two) = (0, 0, 0);
                 flat.push(Stored { word, one, two });
             }
-            let none = Walked {
-                verdict: Verdict::None,
-                placements: 0,
-            };
-            self.walked_as(&flat, 0, none, &[]);
+            self.found_as(&flat, 0, &Found::new(Verdict::None, 0, &[]));
         }
     }
 
@@ -80,11 +76,9 @@ impl Cases {
                 lists.push(Stored { word, one, two });
             }
             // All but the last place take one of them, and at that place two are due.
-            let none = Walked {
-                verdict: Verdict::None,
-                placements: u32::from(width) - 1,
-            };
-            self.at_its_own_count(&lists, none, &[]);
+            let placements = u32::from(width) - 1;
+            let none = Found::new(Verdict::None, placements, &[]);
+            self.at_its_own_count(&lists, &none);
         }
     }
 

@@ -153,6 +153,6 @@ impl Cases {
 }
 
 /// All lengths of three lists up to 3.
-pub(in crate::cases) fn short_lengths() -> impl Iterator<Item = (usize, usize, usize)> {
+fn short_lengths() -> impl Iterator<Item = (usize, usize, usize)> {
     (0..64).map(|n| (n / 16, n / 4 % 4, n % 4))
 }

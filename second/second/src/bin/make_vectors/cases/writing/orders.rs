@@ -9,7 +9,7 @@ use crate::cases::{Cases, KINDS};
 use crate::record::LONGEST_ROOM;
 
 /// One fault: the refusal that it gives by itself, and how it is made in the lists or the room.
-pub(in crate::cases) type Fault = ((u8, usize), fn(&mut Lists, &mut usize));
+type Fault = ((u8, usize), fn(&mut Lists, &mut usize));
 
 impl Cases {
     /// Pairs and triples from a ladder of faults.
@@ -93,7 +93,7 @@ fn as_read(lists: &Lists, room: usize) -> Option<Result<usize, Refusal>> {
 ///
 /// No fault hides one that comes before it, so that of any choice of them the
 /// lowest rung decides.
-pub(in crate::cases) fn ladder() -> Vec<Fault> {
+fn ladder() -> Vec<Fault> {
     fn spoil_word(lists: &mut Lists, i: usize) {
         lists.words[i] |= 1 << 6;
     }

@@ -1,0 +1,84 @@
+-- Laws of building from lists that hold: what the method finds is right for the card's kind, what is spelled is the answer, and the part of
+-- the output that it stands in. Assumes nothing.
+use mathlib.Core.Path.{_≡_, refl, sym, ap, _∙_}
+use mathlib.Core.List.{List, [], _++_, map, append-nil}
+use Prim.Native.Nat.{ℕ, _+_, _-_, _≤_}
+use native.Mathlib.Omega.{arith}
+use lib.ListN.{length, take, drop, drop-of-length-le, length-take, take-append-drop}
+use Rattle.answers.specs.Answer.{given}
+use Rattle.entries.specs.Slot.{entriesIn}
+use Rattle.entries.specs.Fault.{pair, span}
+use Rattle.letters.specs.Letters.{letterOf}
+use Rattle.sequence.specs.Build.{spell}
+use Rattle.sequence.specs.Verdict.{sole, several, noBuild, Outcome, settled, unsettled}
+use Rattle.sequence.proofs.SpellingLaws.{spell-length}
+use Rattle.spelling.specs.Spelling.{Spells}
+use Rattle.walk.specs.declared.Walked.{Walked}
+use Rattle.walk.specs.declared.Walked.the-variants.{Sole, Several, None, Unsettled}
+use Rattle.walk.specs.Walked.{saysWalked, Right, Walks}
+use Rattle.pairs.specs.Settling as pairs
+use Rattle.builds.specs.declared.BuildAnswer.the-variants as is
+use Rattle.builds.specs.Building.{Means, on-pairs, on-spans, answerOf, lettersAfter}
+use Rattle.builds.specs.From.{Found, Lettered}
+
+-- ---- the method of the kind
+
+module _ {kind l : ℕ} (words ones twos : List ℕ) {r : Walked} {ws : List ℕ} where
+  pub found-spans : {budget : ℕ} → kind ≡ span → Walks l (entriesIn words ones twos) budget r ws → Found kind l words ones twos budget r ws
+  found-spans e w = record { means = on-spans e (w .means); worded = λ g. rw e (w .worded g) }
+
+  pub found-pairs : (budget : ℕ) → kind ≡ pair
+      → Right l (pairs.pairEntries (entriesIn words ones twos)) (pairs.Means l (entriesIn words ones twos)) r ws
+      → Found kind l words ones twos budget r ws
+  found-pairs budget e w = record { means = on-pairs e (w .means); worded = λ g. rw e (w .worded g) }
+
+-- ---- what is spelled
+
+module _ (l : ℕ) (ws : List ℕ) (can : Spells l ws) (out : List ℕ) (all : length out + 1 ≡ length ws + l) where
+  -- as many letters as the output has bytes
+  pub spelled-length : length (spell l ws) ≡ length out
+  spelled-length = omega (arith, all, spell-length l ws (can .some-word))
+
+  none-left : {out′ : List ℕ} → out′ ≡ map letterOf (spell l ws) → out′ ≡ map letterOf (spell l ws) ++ drop (length (spell l ws)) out
+  none-left e = e ∙ sym (rw (drop-of-length-le out {i = length (spell l ws)} (omega (arith, spelled-length))) (append-nil _))
+
+  module _ {r : Walked} {k : ℕ} {out′ : List ℕ} where
+    pub spelled-sole : r ≡ Sole k → out′ ≡ map letterOf (spell l ws)
+        → (is.Sole (length out) k ≡ answerOf (given (saysWalked l ws r))) × (out′ ≡ lettersAfter (given (saysWalked l ws r)) out)
+    spelled-sole e o = rw e (ap (λ (n : ℕ). is.Sole n k) (sym spelled-length), none-left o)
+
+    pub spelled-several : r ≡ Several k → out′ ≡ map letterOf (spell l ws)
+        → (is.Several (length out) k ≡ answerOf (given (saysWalked l ws r))) × (out′ ≡ lettersAfter (given (saysWalked l ws r)) out)
+    spelled-several e o = rw e (ap (λ (n : ℕ). is.Several n k) (sym spelled-length), none-left o)
+
+  -- its sequence, where it has one, has so many letters
+  pub says-lettered : (r : Walked) → Lettered (length out) (saysWalked l ws r)
+  says-lettered (Sole k) = spelled-length
+  says-lettered (Several k) = spelled-length
+  says-lettered (None k) = tt
+  says-lettered (Unsettled k) = tt
+
+module _ (l : ℕ) (ws out : List ℕ) {r : Walked} {k : ℕ} where
+  pub spelled-none : r ≡ None k → (is.None k ≡ answerOf (given (saysWalked l ws r))) × (out ≡ lettersAfter (given (saysWalked l ws r)) out)
+  spelled-none e = rw e (refl, refl)
+
+  pub spelled-unsettled : r ≡ Unsettled k
+      → (is.Unsettled k ≡ answerOf (given (saysWalked l ws r))) × (out ≡ lettersAfter (given (saysWalked l ws r)) out)
+  spelled-unsettled e = rw e (refl, refl)
+
+-- ---- the start of a longer output
+
+module _ (n : ℕ) (before : List ℕ) (room : n ≤ length before) where
+  start-then : (s : List ℕ) → length s ≡ length (take n before)
+      → map letterOf s ++ drop (length s) (take n before) ++ drop n before ≡ map letterOf s ++ drop (length s) before
+  start-then s e =
+      let none : drop (length s) (take n before) ≡ [] = drop-of-length-le (take n before) {i = length s} (omega (arith, e)) in
+      let size : length s ≡ n = omega (arith, e, length-take n before) in
+      rw (none, append-nil (map letterOf s)) (ap (λ (k : ℕ). map letterOf s ++ drop k before) (sym size))
+
+  pub start-whole : (o : Outcome) → Lettered (length (take n before)) o
+      → lettersAfter (given o) (take n before) ++ drop n before ≡ lettersAfter (given o) before
+  start-whole (settled (sole s) k) e = start-then s e
+  start-whole (settled (several s) k) e = start-then s e
+  start-whole (settled noBuild k) e = take-append-drop n before
+  start-whole (unsettled k) e = take-append-drop n before

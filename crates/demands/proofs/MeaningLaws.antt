@@ -1,0 +1,181 @@
+-- Laws of what build says of a card, by which the demands are read off. Assumes nothing.
+use mathlib.Core.Path.{_≡_, refl, sym, ap}
+use mathlib.Core.List.{List, map}
+use Prim.Native.Nat.{ℕ, _^_, _<_}
+use native.Mathlib.Omega.{arith}
+use lib.ListN.{length, length-map}
+use borrow.Author.Tests.{leb-true}
+use Rattle.answers.specs.declared.Refusal.{Refusal}
+use Rattle.answers.specs.Answer.{Answer, given, refused, first, sound}
+use Rattle.answers.proofs.Laws.{first-both}
+use Rattle.answers.proofs.RowLaws.{length-row}
+use Rattle.answers.proofs.Tests.{both}
+use Rattle.entries.specs.declared.Slot.{Slot}
+use Rattle.entries.specs.Entry.{entryOf}
+use Rattle.entries.specs.declared.Entry.{Entry}
+use Rattle.entries.specs.Fault.{span, leastLength}
+use Rattle.entries.proofs.Laws.{sound-has}
+use Rattle.layout.specs.Bounds.{leastEntries, mostEntries}
+use Rattle.layout.specs.Layout.{toldBy, slotOf}
+use Rattle.card.specs.Reading.{readingOrder}
+use Rattle.card.proofs.FetchingLaws.{admission-given}
+use Rattle.card.proofs.SoundLaws.{Reads, holds-reads}
+use Rattle.lists.proofs.Laws.{accepted-lists}
+use Rattle.lists.proofs.AdmittedLaws.{itsWords, itsOnes, itsTwos, its-accepted}
+use Rattle.sequence.specs.Lists.{In}
+use Rattle.sequence.specs.Build.{Build}
+use Rattle.sequence.specs.Verdict.{Verdict, sole, several, noBuild, Tells, Outcome, settled, unsettled}
+use Rattle.sequence.proofs.ListLaws.{in-row}
+use Rattle.sequence.proofs.BuildLaws.{entries-fit}
+use Rattle.spans.specs.Walk.{placements}
+use Rattle.spans.specs.Settling as spans
+use Rattle.pairs.specs.Settling as pairs
+use Rattle.builds.specs.declared.BuildAnswer.{BuildAnswer}
+use Rattle.builds.specs.declared.BuildAnswer.the-variants.{Sole, Several, None, Unsettled, Refused}
+use Rattle.builds.specs.Building.{buildTests, slotsOn, entriesOn, Means, on-pairs, on-spans, Says, tells, refuses, answerOf}
+use Rattle.builds.specs.From.{Sound}
+use Rattle.builds.proofs.SoundLaws.{spans-entered}
+use Rattle.builds.proofs.CardLaws.{its-entries}
+use Rattle.demands.specs.Demanded.{PlacementsOf}
+
+-- ---- what an outcome means, whichever the kind
+
+module _ {kind l budget : ℕ} {es : List Slot} where
+  pub means-tells : {v : Verdict} {n : ℕ} → Means kind l es budget (settled v n) → Tells (Build l (map (entryOf kind) es)) v
+  means-tells (on-pairs e (pairs.settles t)) = rw e t
+  means-tells (on-spans e (spans.settles a b t)) = rw e t
+
+  pub means-unsettled : {n : ℕ} → Means kind l es budget (unsettled n) → (kind ≡ span) × (n ≡ budget) × (budget < placements l es)
+  means-unsettled (on-spans e (spans.goes-on a b)) = (e, a, b)
+
+-- the placements of what settles a card
+pub means-placements : {card : List ℕ} {budget : ℕ} {v : Verdict} {n : ℕ}
+    → Means (toldBy card .kind) (toldBy card .l) (slotsOn card) budget (settled v n)
+    → PlacementsOf card budget n
+means-placements (on-pairs e (pairs.settles t)) = record { on-spans = λ f. absurd (omega (arith, e, f)); on-pairs = λ f. refl }
+means-placements (on-spans e (spans.settles a b t)) = record { on-spans = λ f. (a, b); on-pairs = λ f. absurd (omega (arith, e, f)) }
+
+-- ---- what is said, had back from the enum
+
+which : BuildAnswer → ℕ
+which (Sole n k) = 1
+which (Several n k) = 2
+which (None k) = 3
+which (Unsettled k) = 4
+which (Refused r) = 5
+
+lengthOf : BuildAnswer → ℕ
+lengthOf (Sole n k) = n
+lengthOf (Several n k) = n
+lengthOf (None k) = 0
+lengthOf (Unsettled k) = 0
+lengthOf (Refused r) = 0
+
+placedOf : BuildAnswer → ℕ
+placedOf (Sole n k) = k
+placedOf (Several n k) = k
+placedOf (None k) = k
+placedOf (Unsettled k) = k
+placedOf (Refused r) = 0
+
+module _ {n k : ℕ} where
+  pub said-sole : (a : Answer Outcome) → Sole n k ≡ answerOf a → (s : List ℕ) × (a ≡ given (settled (sole s) k)) × (n ≡ length s)
+  unfolding which lengthOf placedOf
+  said-sole (given (settled (sole s) j)) e =
+      (s, ap (λ (x : ℕ). given (settled (sole s) x)) (sym (ap placedOf e)), ap lengthOf e)
+  said-sole (given (settled (several s) j)) e = absurd (omega (arith, ap which e))
+  said-sole (given (settled noBuild j)) e = absurd (omega (arith, ap which e))
+  said-sole (given (unsettled j)) e = absurd (omega (arith, ap which e))
+  said-sole (refused i j) e = absurd (omega (arith, ap which e))
+
+  pub said-several : (a : Answer Outcome) → Several n k ≡ answerOf a → (s : List ℕ) × (a ≡ given (settled (several s) k)) × (n ≡ length s)
+  unfolding which lengthOf placedOf
+  said-several (given (settled (several s) j)) e =
+      (s, ap (λ (x : ℕ). given (settled (several s) x)) (sym (ap placedOf e)), ap lengthOf e)
+  said-several (given (settled (sole s) j)) e = absurd (omega (arith, ap which e))
+  said-several (given (settled noBuild j)) e = absurd (omega (arith, ap which e))
+  said-several (given (unsettled j)) e = absurd (omega (arith, ap which e))
+  said-several (refused i j) e = absurd (omega (arith, ap which e))
+
+module _ {k : ℕ} where
+  pub said-none : (a : Answer Outcome) → None k ≡ answerOf a → a ≡ given (settled noBuild k)
+  unfolding which placedOf
+  said-none (given (settled noBuild j)) e = ap (λ (x : ℕ). given (settled noBuild x)) (sym (ap placedOf e))
+  said-none (given (settled (sole s) j)) e = absurd (omega (arith, ap which e))
+  said-none (given (settled (several s) j)) e = absurd (omega (arith, ap which e))
+  said-none (given (unsettled j)) e = absurd (omega (arith, ap which e))
+  said-none (refused i j) e = absurd (omega (arith, ap which e))
+
+  pub said-unsettled : (a : Answer Outcome) → Unsettled k ≡ answerOf a → a ≡ given (unsettled k)
+  unfolding which placedOf
+  said-unsettled (given (unsettled j)) e = ap (λ (x : ℕ). given (unsettled x)) (sym (ap placedOf e))
+  said-unsettled (given (settled (sole s) j)) e = absurd (omega (arith, ap which e))
+  said-unsettled (given (settled (several s) j)) e = absurd (omega (arith, ap which e))
+  said-unsettled (given (settled noBuild j)) e = absurd (omega (arith, ap which e))
+  said-unsettled (refused i j) e = absurd (omega (arith, ap which e))
+
+refusalOf : BuildAnswer → Refusal
+refusalOf (Sole n k) = record { number = 0; place = 0 }
+refusalOf (Several n k) = record { number = 0; place = 0 }
+refusalOf (None k) = record { number = 0; place = 0 }
+refusalOf (Unsettled k) = record { number = 0; place = 0 }
+refusalOf (Refused r) = r
+
+pub said-refused : {r : Refusal} (a : Answer Outcome) → Refused r ≡ answerOf a → a ≡ refused (r .number) (r .place)
+unfolding which refusalOf
+said-refused (refused i j) e = ap (λ (x : Refusal). refused (x .number) (x .place)) (sym (ap refusalOf e))
+said-refused (given (settled (sole s) j)) e = absurd (omega (arith, ap which e))
+said-refused (given (settled (several s) j)) e = absurd (omega (arith, ap which e))
+said-refused (given (settled noBuild j)) e = absurd (omega (arith, ap which e))
+said-refused (given (unsettled j)) e = absurd (omega (arith, ap which e))
+
+-- ---- what is said holds
+
+module _ {limit budget room : ℕ} {card : List ℕ} where
+  pub says-holds : {o : Outcome} → Says limit card budget room (given o) → first (buildTests limit card room) sound ≡ given sound
+  says-holds (tells e m) = e
+
+  pub says-means : {o : Outcome} → Says limit card budget room (given o)
+      → Means (toldBy card .kind) (toldBy card .l) (slotsOn card) budget o
+  says-means (tells e m) = m
+
+  pub says-refused : {n p : ℕ} → Says limit card budget room (refused n p) → first (buildTests limit card room) sound ≡ refused n p
+  says-refused (refuses e) = e
+
+-- the entries of a span card whose tests hold are admitted
+pub card-entered : (card : List ℕ) (room : ℕ) → first (buildTests mostEntries card room) sound ≡ given sound → toldBy card .kind ≡ span
+    → spans.Entered (toldBy card .l) (slotsOn card)
+unfolding buildTests
+card-entered card room e k =
+    let order = first-both _ sound (readingOrder mostEntries card) sound e .0 in
+    let admitted = admission-given mostEntries card order in
+    let own : Sound (toldBy card .kind) (toldBy card .l) (itsWords mostEntries card admitted) (itsOnes mostEntries card admitted)
+    (itsTwos mostEntries card admitted) =
+    record { hold = accepted-lists (its-accepted mostEntries card admitted) } in
+    rw (sym (its-entries mostEntries card admitted)) (spans-entered (rw k at own))
+
+-- what a card whose tests hold has: letters, entries, and words of so many letters
+module _ (card : List ℕ) (room : ℕ) (e : first (buildTests mostEntries card room) sound ≡ given sound) where
+  order : first (readingOrder mostEntries card) sound ≡ given sound
+  unfolding buildTests
+  order = first-both _ sound (readingOrder mostEntries card) sound e .0
+
+  reads : Reads mostEntries card
+  reads = holds-reads mostEntries card order
+
+  pub card-letters : 0 < toldBy card .l
+  card-letters = let b = both _ _ (reads .letters) in omega (arith, leb-true leastLength (toldBy card .l) (b .0))
+
+  pub card-entries : 0 < length (entriesOn card)
+  card-entries =
+      let b = both _ _ (reads .count) in
+      let slots = length-row (slotOf card) 0 (toldBy card .m) in
+      omega (arith, leb-true leastEntries (toldBy card .m) (b .0), slots, length-map (slotsOn card) (entryOf (toldBy card .kind)))
+
+  pub card-words : (x : Entry) → In x (entriesOn card) → x .word < 4 ^ toldBy card .l
+  card-words = entries-fit (toldBy card .l) (toldBy card .kind) (slotsOn card) fits
+    where
+      fits : (s : Slot) → In s (slotsOn card) → s .word < 4 ^ toldBy card .l
+      fits s h =
+          let u = in-row (slotOf card) 0 (toldBy card .m) h in
+          rw (u .2) (sound-has (toldBy card) (u .0) (slotOf card (u .0)) (reads .entries (u .0) (omega (arith, u .1))) .0)

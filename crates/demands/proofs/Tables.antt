@@ -1,0 +1,58 @@
+-- The twelve small tables of 01, from the definitions through a single statement over the list, and what build answers on a card of any of
+-- them. The verdicts are told by all arrangements and the placements by the walk, each in one computation (`sequence`, `spans`). Assumes
+-- nothing.
+use mathlib.Core.Path.{_≡_, refl, ap, _∙_}
+use mathlib.Core.Logic.{⊎-elim}
+use mathlib.Core.List.{List, map}
+use Prim.Native.Nat.{ℕ, _≤_}
+use lib.ListN.{length}
+use Rattle.answers.specs.Answer.{Answer, given, first, sound}
+use Rattle.entries.specs.Fault.{pair, span}
+use Rattle.layout.specs.Bounds.{mostEntries}
+use Rattle.sequence.specs.Lists.{In}
+use Rattle.sequence.specs.Verdict.{Outcome, settled}
+use Rattle.sequence.specs.Tables.{Table, storedIn, pairTables, spanTables, tables, s1}
+use Rattle.sequence.proofs.ListLaws.{in-append}
+use Rattle.sequence.proofs.Tables.{map-agree}
+use Rattle.spans.proofs.Tables.{spans-settle, s1-unsettled}
+use Rattle.pairs.proofs.Tables.{pairs-hold}
+use Rattle.builds.specs.declared.BuildAnswer.{BuildAnswer}
+use Rattle.builds.specs.declared.BuildAnswer.the-variants.{Unsettled}
+use Rattle.builds.specs.Building.{buildTests, Means, on-pairs, on-spans, tells, answerOf, lettersAfter, Builds}
+use Rattle.builds.proofs.Determined.{says-one}
+use Rattle.demands.specs.Demanded.{kindOf, Holds, OnCard}
+
+pairs-kind : map kindOf pairTables ≡ map (λ t. pair) pairTables
+pairs-kind = refl
+
+spans-kind : map kindOf spanTables ≡ map (λ t. span) spanTables
+spans-kind = refl
+
+pub tables-hold : Holds tables
+tables-hold t h budget g =
+    ⊎-elim (λ p. on-pairs (map-agree kindOf (λ u. pair) p pairs-kind) (pairs-hold t p .1))
+    (λ s. on-spans (map-agree kindOf (λ u. span) s spans-kind) (spans-settle t s .1 budget g))
+    (in-append pairTables h)
+
+-- what build answers, and writes, on a card whose tests hold and that has an outcome
+module _ {card before after : List ℕ} {budget : ℕ} {r : BuildAnswer} (b : Builds mostEntries card budget before r after)
+    (hold : first (buildTests mostEntries card (length before)) sound ≡ given sound)
+    (t : Table) (on : OnCard t card) where
+  outcome-answered : {o : Outcome} → Means (kindOf t) 2 (storedIn t) budget o
+      → (r ≡ answerOf (given o)) × (after ≡ lettersAfter (given o) before)
+  outcome-answered {o} m =
+      let said = says-one (b .says) (tells {o = o} hold (rw (on .kind, on .letters, on .entries) m)) in
+      (b .answer ∙ ap answerOf said, b .output ∙ ap (λ (a : Answer Outcome). lettersAfter a before) said)
+
+  -- each line of the list
+  pub table-answered : In t tables → t .placements ≤ budget
+      → (r ≡ answerOf (given (settled (t .verdict) (t .placements))))
+      × (after ≡ lettersAfter (given (settled (t .verdict) (t .placements))) before)
+  table-answered h g = outcome-answered (tables-hold t h budget g)
+
+-- S1: "budget 7 gives Unsettled"
+pub s1-at-seven : {card before after : List ℕ} {r : BuildAnswer} → Builds mostEntries card 7 before r after
+    → first (buildTests mostEntries card (length before)) sound ≡ given sound
+    → OnCard s1 card
+    → (r ≡ Unsettled 7) × (after ≡ before)
+s1-at-seven b hold on = outcome-answered b hold s1 on (on-spans refl s1-unsettled)

@@ -1,0 +1,120 @@
+-- With room for the longest sequence 12 never comes: what is refused is refused by the reader, whose numbers are below 12, and the line
+-- `refused 12 0` is never printed. Assumes nothing.
+use mathlib.Core.Path.{_≡_, refl, sym, ap, _∙_}
+use mathlib.Core.Logic.{⊎-elim}
+use mathlib.Core.Bool.{Bool, true, false, _&&_}
+use mathlib.Core.List.{List, [], _∷_, _++_}
+use Prim.Native.Nat.{ℕ, zero, suc, _+_, _/_, _%_, _≤_, _<_}
+use Prim.Native.Char.{code}
+use native.Mathlib.Omega.{arith}
+use lib.Dec.{ltb}
+use lib.ListN.{length, getD}
+use borrow.Author.Tests.{ltb-true}
+use Rattle.answers.specs.Numbers.{Spare, Room}
+use Rattle.answers.specs.Answer.{Answer, given, refused, Sound, sound, Test, test, first}
+use Rattle.answers.specs.Row.{inTurn}
+use Rattle.answers.proofs.Laws.{given-not-refused}
+use Rattle.answers.proofs.Tests.{both}
+use Rattle.block.specs.Block.{blockAt, blockTests}
+use Rattle.entries.specs.declared.Format.{Format}
+use Rattle.entries.specs.Slot.{slotAt}
+use Rattle.entries.specs.Fault.{entryTests}
+use Rattle.layout.specs.Layout.{toldBy, entryBlocks, entriesBefore, entriesIn, slotsSpare}
+use Rattle.card.specs.Reading.{fieldTests, headTests, slotsTests, laterTests, readingOrder}
+use Rattle.card.proofs.FetchingLaws.{order-admits}
+use Rattle.sequence.specs.Verdict.{sole, several, noBuild, Outcome, settled, unsettled}
+use Rattle.sequence.proofs.FillingLaws.{lt-or-le}
+use Rattle.builds.specs.Building.{buildTests, Says, refuses}
+use Rattle.builds.proofs.CardLaws.{reader-refuses, has-room}
+use Rattle.text.specs.Text.{ascii, digit, decimal}
+use Rattle.lines.specs.Lines.{programBudget, lettersRoom, cardLine, linesOf, Reports}
+use Rattle.text.proofs.DecimalLaws.{decimal-one, decimal-more}
+
+-- ---- the reader's numbers
+
+-- whether each of these tests refuses by a number below 12
+abbrev below : List Test → Bool
+below [] = true
+below (test ok n p ∷ ts) = ltb n Room && below ts
+
+below-append : (xs ys : List Test) → below xs ≡ true → below ys ≡ true → below (xs ++ ys) ≡ true
+below-append [] ys h g = g
+below-append (test ok n p ∷ xs) ys h g =
+    let parts = both (ltb n Room) (below xs) h in rw (parts .0) (below-append xs ys (parts .1) g)
+
+below-turns : (f : ℕ → List Test) → ((k : ℕ) → below (f k) ≡ true) → (n k : ℕ) → below (inTurn f k n) ≡ true
+unfolding inTurn
+below-turns f each zero k = refl
+below-turns f each (suc n) k = below-append (f k) (inTurn f (suc k) n) (each k) (below-turns f each n (suc k))
+
+below-refused : (ts : List Test) {n p : ℕ} → below ts ≡ true → first ts sound ≡ refused n p → n < Room
+unfolding first
+below-refused [] h e = let z : _≡_ {A = ℕ} 0 1 = cc in absurd (omega arith)
+below-refused (test true k p ∷ ts) h e = below-refused ts (both (ltb k Room) (below ts) h .1) e
+below-refused (test false k p ∷ ts) {n} h e =
+    let same : k ≡ n = cc in rw same at (ltb-true k Room (both (ltb k Room) (below ts) h .0))
+
+slots-below : (f : Format) (b : List ℕ) (e n : ℕ) → below (slotsTests f b e n) ≡ true
+unfolding slotsTests entryTests
+slots-below f b e n = below-turns (λ j. entryTests f (e + j) (slotAt b j)) (λ j. refl) n 0
+
+later-below : (f : Format) (card : List ℕ) (k : ℕ) → below (laterTests f card k) ≡ true
+unfolding laterTests blockTests
+later-below f card k =
+    let n = entriesIn (f .m) k in
+    below-append (slotsTests f (blockAt card k) (entriesBefore k) n) (test (slotsSpare (blockAt card k) n) Spare k ∷ [])
+    (slots-below f (blockAt card k) (entriesBefore k) n) refl
+
+order-below : (limit : ℕ) (card : List ℕ) → below (readingOrder limit card) ≡ true
+unfolding readingOrder headTests blockTests fieldTests
+order-below limit card = below-turns (laterTests (toldBy card) card) (later-below (toldBy card) card) (entryBlocks (toldBy card .m)) 1
+
+-- ---- 12 is not due
+
+module _ (limit : ℕ) (card : List ℕ) {n p : ℕ} where
+  pub room-enough : first (buildTests limit card (lettersRoom limit)) sound ≡ refused n p → n < Room
+  room-enough e = go (first (readingOrder limit card) sound) refl
+    where
+      go : (a : Answer Sound) → first (readingOrder limit card) sound ≡ a → n < Room
+      go (given sound) held =
+          let head = order-admits held .head in
+          let room = has-room limit card (lettersRoom limit) held (omega (arith, head .most, head .letters)) in
+          absurd (given-not-refused (sym room ∙ e))
+      go (refused k q) stops =
+          let same : k ≡ n = cc (reader-refuses limit card (lettersRoom limit) stops) in
+          rw same at (below-refused (readingOrder limit card) (order-below limit card) stops)
+
+pub never-said : {limit p : ℕ} {card : List ℕ} → Says limit card programBudget (lettersRoom limit) (refused Room p) → ⊥
+never-said {limit} {card} (refuses e) = omega (arith, room-enough limit card e)
+
+-- ---- nor is it printed
+
+-- the second byte of a number below 12, or the space after it, tells it from 12
+second-byte : (n : ℕ) (rest : List ℕ) → n < Room → getD (decimal n ++ (ascii " " ++ rest)) 1 0 ≡ code "2" → ⊥
+second-byte n rest h e = ⊎-elim one two (lt-or-le n 10)
+  where
+    one : n < 10 → ⊥
+    one g = let z : code " " ≡ code "2" = rw (decimal-one n g) at e in omega arith
+
+    two : 10 ≤ n → ⊥
+    two g =
+        let ten : n / 10 ≡ 1 = omega arith in
+        let z : digit (n % 10) ≡ code "2" = rw (decimal-more n g, ten, decimal-one 1 (omega arith)) at e in
+        omega arith
+
+-- a line of a card does not begin as a refusal's does
+capital : {rest more : List ℕ} → code "C" ∷ rest ≡ code "r" ∷ more → ⊥
+capital e = let z : code "C" ≡ code "r" = ap (λ (xs : List ℕ). getD xs 0 0) e in omega arith
+
+pub never-printed : {limit : ℕ} {card bytes : List ℕ} → Reports limit card bytes → bytes ≡ ascii "refused 12 0\n" → ⊥
+unfolding linesOf cardLine
+never-printed {limit} {card} reports e = go (reports .said) (reports .says) (sym (reports .printed) ∙ e)
+  where
+    go : (a : Answer Outcome) → Says limit card programBudget (lettersRoom limit) a → linesOf (toldBy card) a ≡ ascii "refused 12 0\n"
+        → ⊥
+    go (given (settled (sole s) n)) says e = capital e
+    go (given (settled (several s) n)) says e = capital e
+    go (given (settled noBuild n)) says e = capital e
+    go (given (unsettled n)) says e = capital e
+    go (refused n p) (refuses r) e =
+        second-byte n _ (room-enough limit card r) (ap (λ (xs : List ℕ). getD xs (length (ascii "refused ") + 1) 0) e)

@@ -1,0 +1,16 @@
+-- How many bytes the parts of the lines have: what the inner functions of `report` ask. A reader of its contract needs none of it.
+-- Assumes nothing.
+use Prim.Native.Nat.{ℕ, _+_}
+use Rattle.text.specs.Putting.{mostDigits}
+
+-- the name of a kind
+abbrev pub nameBytes : ℕ
+nameBytes = 4
+
+-- line 1: `CARD` and a space, the name, two numbers with a space before each, and the end
+abbrev pub cardRoom : ℕ
+cardRoom = 5 + nameBytes + 3 + mostDigits + mostDigits
+
+-- the line of a refusal: `refused`, two numbers with a space before each, and the end
+abbrev pub refusalRoom : ℕ
+refusalRoom = 7 + 3 + mostDigits + mostDigits

@@ -1,0 +1,117 @@
+// What the program `build` prints for a card: line 1 with its kind, l and m and line 2 with its verdict, or the one line of a refusal.
+ghost use mathlib.Core.List.{[], _∷_, _++_};
+ghost use Prim.Native.Nat.{_+_, _≤_};
+ghost use lib.ListN.{length};
+ghost use Rattle.block.specs.Block.{blockBytes};
+ghost use Rattle.layout.specs.Layout.{toldBy};
+ghost use Rattle.layout.specs.Bounds.{mostEntries};
+ghost use Rattle.text.specs.Text.{ascii, decimal, line};
+ghost use Rattle.text.specs.Putting.{mostDigits, Put};
+ghost use Rattle.lines.specs.Lines.{kindName, cardLine, Reported};
+ghost use Rattle.lines.specs.Rooms.{nameBytes, cardRoom, refusalRoom};
+use answers::Refusal;
+use builds::BuildAnswer;
+
+// The budget that the program builds with.
+const BUDGET: u32 = 1000000;
+// The letters of the longest sequence.
+const LETTERS: usize = layout::MOST + entries::MOST_LENGTH - 1;
+// Room for the lines: for the letters, and for all else that stands on them.
+pub const LINES: usize = LETTERS + 100;
+
+// The name of a kind.
+fn put_kind(out: &mut [u8], at: usize, kind: usize) -> usize
+    requires { ⌜ at + nameBytes ≤ length (now out) ⌝ }
+    ensures { λ r. ⌜ Put (kindName kind) at (now (out .entry)) r (now (out .exit)) ⌝ }
+{
+    if kind == entries::PAIR {
+        return text::put_text(out, at, b"pair");
+    }
+    text::put_text(out, at, b"span")
+}
+
+// Line 1.
+fn put_card(out: &mut [u8], card: &[u8]) -> usize
+    requires { ⌜ blockBytes ≤ length (now card) ⌝ }
+    requires { ⌜ cardRoom ≤ length (now out) ⌝ }
+    ensures { λ r. ⌜ Put (cardLine (toldBy (now (card .entry)))) 0 (now (out .entry)) r (now (out .exit)) ⌝ }
+    ensures { λ r. ⌜ r ≤ cardRoom ⌝ }
+{
+    let f = layout::told_by(card);
+    let kind_at = text::put_text(out, 0, b"CARD ");
+    let l_at = put_kind(out, kind_at, f.kind);
+    text::put_two(out, l_at, f.l, f.m)
+}
+
+// Line 2, with a sequence.
+fn put_sequence(out: &mut [u8], at: usize, verdict: &[u8], letters: &[u8], n: u32) -> usize
+    requires { ⌜ at + length (now verdict) + 1 + length (now letters) + 2 + mostDigits ≤ length (now out) ⌝ }
+    ensures { λ r. ⌜
+        Put (line (now (verdict .entry)) (now (letters .entry) ∷ decimal n ∷ [])) at (now (out .entry)) r (now (out .exit))
+        ⌝ }
+{
+    let letters_at = text::put_text(out, at, verdict);
+    let n_at = text::put_field(out, letters_at, letters);
+    text::put_last(out, n_at, n as usize)
+}
+
+// Line 2, without one.
+fn put_placements(out: &mut [u8], at: usize, verdict: &[u8], n: u32) -> usize
+    requires { ⌜ at + length (now verdict) + 2 + mostDigits ≤ length (now out) ⌝ }
+    ensures { λ r. ⌜ Put (line (now (verdict .entry)) (decimal n ∷ [])) at (now (out .entry)) r (now (out .exit)) ⌝ }
+{
+    let n_at = text::put_text(out, at, verdict);
+    text::put_last(out, n_at, n as usize)
+}
+
+// The one line of a refusal.
+fn put_refused(out: &mut [u8], r: Refusal) -> usize
+    requires { ⌜ refusalRoom ≤ length (now out) ⌝ }
+    ensures { λ n. ⌜
+        Put (line (ascii "refused") (decimal (r .number) ∷ decimal (r .place) ∷ [])) 0 (now (out .entry)) n (now (out .exit))
+        ⌝ }
+{
+    let number_at = text::put_text(out, 0, b"refused");
+    text::put_two(out, number_at, r.number, r.place)
+}
+
+// Both lines, with a sequence.
+fn put_card_sequence(out: &mut [u8], card: &[u8], verdict: &[u8], letters: &[u8], n: u32) -> usize
+    requires { ⌜ blockBytes ≤ length (now card) ⌝ }
+    requires { ⌜ cardRoom + length (now verdict) + length (now letters) + 3 + mostDigits ≤ length (now out) ⌝ }
+    ensures { λ r. ⌜
+        Put (cardLine (toldBy (now (card .entry))) ++ line (now (verdict .entry)) (now (letters .entry) ∷ decimal n ∷ [])) 0
+        (now (out .entry)) r (now (out .exit))
+        ⌝ }
+{
+    let at = put_card(out, card);
+    put_sequence(out, at, verdict, letters, n)
+}
+
+// Both lines, without one.
+fn put_card_placements(out: &mut [u8], card: &[u8], verdict: &[u8], n: u32) -> usize
+    requires { ⌜ blockBytes ≤ length (now card) ⌝ }
+    requires { ⌜ cardRoom + length (now verdict) + 2 + mostDigits ≤ length (now out) ⌝ }
+    ensures { λ r. ⌜
+        Put (cardLine (toldBy (now (card .entry))) ++ line (now (verdict .entry)) (decimal n ∷ [])) 0
+        (now (out .entry)) r (now (out .exit))
+        ⌝ }
+{
+    let at = put_card(out, card);
+    put_placements(out, at, verdict, n)
+}
+
+// What is printed for a card stands at the start of the buffer, whose later bytes are as they were; the answer is how many bytes it has.
+// The card is built from once, with room for the longest sequence.
+pub fn report(card: &[u8], out: &mut [u8; LINES]) -> usize
+    ensures { λ r. ⌜ Reported mostEntries (now (card .entry)) (now (out .entry)) r (now (out .exit)) ⌝ }
+{
+    let mut letters = [0u8; LETTERS];
+    match builds::build(card, BUDGET, &mut letters) {
+        BuildAnswer::Sole(n, k) => put_card_sequence(out, card, b"sole", &letters[..n], k),
+        BuildAnswer::Several(n, k) => put_card_sequence(out, card, b"several", &letters[..n], k),
+        BuildAnswer::None(k) => put_card_placements(out, card, b"none", k),
+        BuildAnswer::Unsettled(k) => put_card_placements(out, card, b"unsettled", k),
+        BuildAnswer::Refused(r) => put_refused(out, r),
+    }
+}

@@ -1,0 +1,2 @@
+-- `Spelling` is what is asked of the words.
+pub mod Spelling

@@ -1,0 +1,82 @@
+-- Laws of putting text into a buffer: a loop that puts a part byte by byte, and parts one after the other. No contract cites this file.
+-- Assumes nothing.
+use mathlib.Core.Path.{_≡_, refl, sym, ap, _∙_}
+use mathlib.Core.List.{List, [], _∷_, _++_}
+use Prim.Native.Nat.{ℕ, _+_, _^_, _≤_, _<_}
+use native.Mathlib.Numerals.{add-one}
+use native.Mathlib.Omega.{arith}
+use lib.ListN.{length, getD, take, set, length-append}
+use lib.Seq.{take-suc, take-all, length-take-le}
+use Rattle.block.specs.Bytes.{putAt}
+use Rattle.block.proofs.PutLaws.{put-none, put-length, put-on, put-next}
+use Rattle.text.specs.Text.{ascii, decimal, others}
+use Rattle.text.specs.Putting.{mostDigits, Put}
+use Rattle.text.proofs.DecimalLaws.{decimal-few}
+
+-- ---- byte by byte
+
+-- the first i bytes of xs stand in the buffer
+pub record PutSoFar (xs : List ℕ) (at : ℕ) (before : List ℕ) (i : ℕ) (out : List ℕ) : Type 0 where
+  pub within : i ≤ length xs
+  pub room : at + length xs ≤ length before
+  pub stands : out ≡ putAt (take i xs) at before
+
+module _ (xs : List ℕ) (at : ℕ) (before : List ℕ) where
+  pub put-so-far-none : at + length xs ≤ length before → PutSoFar xs at before 0 before
+  put-so-far-none h = record { within = omega arith; room = h; stands = sym (put-none before at) }
+
+  module _ {i : ℕ} {out : List ℕ} (so-far : PutSoFar xs at before i out) where
+    length-so-far : length (take i xs) ≡ i
+    length-so-far = length-take-le i xs (so-far .within)
+
+    pub put-so-far-length : length out ≡ length before
+    put-so-far-length =
+        rw (so-far .stands) (put-length before (take i xs) at (omega (arith, so-far .within, so-far .room, length-so-far)))
+
+    pub put-so-far-turn : i < length xs → PutSoFar xs at before (i + 1) (set out (at + i) (getD xs i 0))
+    put-so-far-turn h = record {
+      within = omega arith;
+      room = so-far .room;
+      stands =
+          put-next before at (take i xs) (so-far .stands) (ap (λ (k : ℕ). at + k) (sym length-so-far)) (getD xs i 0)
+          (omega (arith, so-far .room))
+          ∙ ap (λ (ys : List ℕ). putAt ys at before) (sym (rw (add-one i) (take-suc xs i 0 h)));
+    }
+
+    pub put-so-far-all : length xs ≤ i → Put xs at before (at + length xs) out
+    put-so-far-all h = record {
+      room = so-far .room;
+      ends = refl;
+      stands = so-far .stands ∙ ap (λ (ys : List ℕ). putAt ys at before) (take-all i xs h);
+    }
+
+-- ---- part by part
+
+module _ {xs before out : List ℕ} {at to : ℕ} (put : Put xs at before to out) where
+  pub length-put : length out ≡ length before
+  length-put = rw (put .stands) (put-length before xs at (put .room))
+
+  -- another part after it
+  pub put-then : {ys after : List ℕ} {end : ℕ} → Put ys to out end after → Put (xs ++ ys) at before end after
+  put-then {ys} next =
+      let long = length-append xs ys in
+      let fits : to + length ys ≤ length before = omega (arith, next .room, length-put) in
+      record {
+        room = omega (arith, put .ends);
+        ends = omega (arith, next .ends, put .ends);
+        stands = next .stands ∙ put-on before at xs (put .stands) (put .ends) ys fits;
+      }
+
+  -- the same bytes by another name
+  pub put-as : {ys : List ℕ} → xs ≡ ys → Put ys at before to out
+  put-as e = rw e at put
+
+-- ---- where numbers end
+
+pub number-ends : {x at to : ℕ} {before after : List ℕ} → x < 2 ^ 64 → Put (ascii " " ++ decimal x) at before to after
+    → to ≤ at + 1 + mostDigits
+number-ends {x} h put = omega (arith, put .ends, decimal-few x h)
+
+pub last-ends : (x : ℕ) {at to : ℕ} {before after : List ℕ} → x < 2 ^ 64 → Put (others (decimal x ∷ [])) at before to after
+    → to ≤ at + 2 + mostDigits
+last-ends x h put = omega (arith, put .ends, decimal-few x h, length-append (decimal x) (ascii "\n"))

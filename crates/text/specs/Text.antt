@@ -1,0 +1,36 @@
+-- Text in ASCII, as it is printed.
+--   ascii text      == the bytes of a text
+--   decimal n       == the number n in decimal, with no needless zeros
+--   line f fs       == a line: the field f and the fields fs, with one space between two fields, and its end
+-- Assumes nothing.
+use mathlib.Core.List.{List, [], _∷_, _++_}
+use Prim.Native.Nat.{ℕ, zero, suc, _+_, _/_, _%_}
+use Prim.Native.Char.{code}
+use Prim.Native.String.{String, [] as nothing, _∷_ as _then_}
+
+abbrev pub ascii : String → List ℕ
+ascii nothing = []
+ascii (c then text) = code c ∷ ascii text
+
+-- the digit d, which is below 10
+abbrev pub digit : ℕ → ℕ
+digit d = code "0" + d
+
+-- the digits of n, none where it is 0; k is how many there may be
+unfoldable pub digitsIn : ℕ → ℕ → List ℕ
+digitsIn zero n = []
+digitsIn (suc k) zero = []
+digitsIn (suc k) (suc n) = digitsIn k (suc n / 10) ++ (digit (suc n % 10) ∷ [])
+
+-- no n has more than n digits before its last one, so this is the digit n below 10, and from 10 on n / 10 in decimal and then the digit
+-- n % 10: `decimal-one` and `decimal-more` of proofs/DecimalLaws.antt
+unfoldable pub decimal : ℕ → List ℕ
+decimal n = digitsIn n (n / 10) ++ (digit (n % 10) ∷ [])
+
+-- what follows a field on its line: the other fields, each after a space, and the line's end
+abbrev pub others : List (List ℕ) → List ℕ
+others [] = ascii "\n"
+others (field ∷ fields) = ascii " " ++ (field ++ others fields)
+
+abbrev pub line : List ℕ → List (List ℕ) → List ℕ
+line field fields = field ++ others fields

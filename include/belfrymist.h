@@ -1,0 +1,170 @@
+/* Spectrum cards: admitting, reading and writing them, and building the sequence. For firmware, in C99 and in C++.
+ *
+ * Link libfirmware.a, which `tests/archive FOLDER` writes for x86-64. Each function is proved to meet its contract, which stands over
+ * the function of the same name in crates/firmware/src/. This file says the same in words; where the two differ, the contract is right.
+ *
+ * WHAT COMES BACK. Every function answers for every input, and ends. An answer is a struct of numbers, returned by value. `number`, in
+ * each struct that has one, is 0 where nothing is refused; otherwise it is one of the refusals below, `place` says where, and every other field is 0. An answer that
+ * is no refusal has place 0. After a refusal no byte of any buffer differs.
+ *
+ * WHAT THE CALLER OWES. The proof takes this for granted, and no call can test it:
+ *   - a pointer and the length after it are one run of elements that are all there. Lengths count elements, not bytes;
+ *   - with length 0 nothing is read or written through the pointer. It may be null: tried on the compiled library, not proved;
+ *   - a pointer is aligned for its elements: 4 for uint32_t, 2 for uint16_t, any for bytes;
+ *   - an output may be written, has a value in each byte before the call, and overlaps no card, no list and no other output;
+ *   - during the call nothing else writes the card or the lists, and nothing else reads or writes the output;
+ *   - there is stack: see BELFRYMIST_STACK.
+ * A card or a list is only read. Nothing is kept from call to call and no memory is asked for, so that calls may run side by side in
+ * threads, each with its own output. From outside the library needs memcpy and memset at most.
+ */
+#ifndef BELFRYMIST_H
+#define BELFRYMIST_H
+
+#include <stddef.h>
+#include <stdint.h>
+
+#ifdef __cplusplus
+extern "C" {
+#endif
+
+/* The numbers of a card. */
+enum {
+    BELFRYMIST_BLOCK = 512,             /* bytes of a block */
+    BELFRYMIST_ENTRIES_IN_A_BLOCK = 63, /* a card has 1 + ceil(m / 63) blocks */
+    BELFRYMIST_MOST_ENTRIES = 504,      /* m is from 1 to this */
+    BELFRYMIST_LEAST_LETTERS = 2,       /* l, the letters of a word, is from this ... */
+    BELFRYMIST_MOST_LETTERS = 12,       /* ... to this */
+    BELFRYMIST_MOST_WIDTH = 8,          /* the places of a span */
+    BELFRYMIST_MOST_CARD = 4608,        /* bytes of the largest card */
+    BELFRYMIST_MOST_SEQUENCE = 515,     /* letters of the longest sequence: room for every build */
+    BELFRYMIST_NO_SECOND_PLACE = 65535  /* place two of an entry that has one place, on a pair card */
+};
+
+/* Bytes of stack that a call of belfrymist_build takes at most, and any other call: measured on x86-64 over the samples and the largest
+ * cards of both kinds, and not proved. Building takes about 39,000 bytes, and on a span card 288 more for each entry that it places. */
+enum { BELFRYMIST_STACK = 184320, BELFRYMIST_STACK_READING = 512 };
+
+/* The kinds of card. */
+enum { BELFRYMIST_PAIR = 1, BELFRYMIST_SPAN = 2 };
+
+/* The shapes of an entry's allowed places. */
+enum {
+    BELFRYMIST_NO_ENTRY = 0,     /* a refusal, or the end of the list */
+    BELFRYMIST_ONE_PLACE = 1,    /* `first`; `second` is 0 */
+    BELFRYMIST_TWO_PLACES = 2,   /* `first` and `second`, first < second */
+    BELFRYMIST_A_SPAN = 3        /* every place from `first` to `second`, first <= second */
+};
+
+/* The verdicts. */
+enum {
+    BELFRYMIST_NO_VERDICT = 0,   /* a refusal */
+    BELFRYMIST_SOLE = 1,         /* exactly one sequence fits, and it was given */
+    BELFRYMIST_SEVERAL = 2,      /* two or more fit, and the alphabetically first was given */
+    BELFRYMIST_NONE = 3,         /* no sequence fits */
+    BELFRYMIST_UNSETTLED = 4     /* the budget ended the walk: nothing is known of what fits. It is not "none" */
+};
+
+/* The refusals. Places are blocks or entries, both counted from 0 over the whole card. */
+enum {
+    BELFRYMIST_REFUSED_SHORT = 1,        /* the card has fewer than 512 bytes; place 0 */
+    BELFRYMIST_REFUSED_CHECK = 2,        /* a check byte of a block differs; the block */
+    BELFRYMIST_REFUSED_INDEX = 3,        /* a block's index differs; the block */
+    BELFRYMIST_REFUSED_FORM = 4,         /* the form is not 1; place 0 */
+    BELFRYMIST_REFUSED_KIND = 5,         /* the kind is neither 1 nor 2; place 0 */
+    BELFRYMIST_REFUSED_WORD_LENGTH = 6,  /* l is outside 2 to 12; place 0 */
+    BELFRYMIST_REFUSED_COUNT = 7,        /* m is outside 1 to 504; place 0 */
+    BELFRYMIST_REFUSED_SPARE = 8,        /* a byte that must be zero is not; the block */
+    BELFRYMIST_REFUSED_SIZE = 9,         /* the card's bytes are not 512 * (1 + ceil(m / 63)); place 0 */
+    BELFRYMIST_REFUSED_WORD = 10,        /* a word is 4^l or more; the entry */
+    BELFRYMIST_REFUSED_PLACES = 11,      /* places out of order, beyond m - 1, or a span over 8 wide; the entry */
+    BELFRYMIST_REFUSED_ROOM = 12,        /* the output is too short; place 0 */
+    BELFRYMIST_REFUSED_LISTS = 13,       /* the three lists differ in length; place 0 */
+    BELFRYMIST_REFUSED_ABSENT = 14       /* there is no such block or entry; place 0 */
+};
+
+typedef struct {
+    size_t number, place;
+    size_t kind; /* BELFRYMIST_PAIR or BELFRYMIST_SPAN */
+    size_t l;    /* letters of a word */
+    size_t m;    /* entries */
+} belfrymist_admit_answer;
+
+typedef struct {
+    size_t number, place;
+    size_t shape;         /* of its allowed places */
+    size_t word;          /* its value: A, C, G, T are 0, 1, 2, 3, the first letter most significant */
+    size_t first, second; /* its places, as the shape says */
+} belfrymist_entry_answer;
+
+typedef struct {
+    size_t number, place;
+    size_t shape, word, first, second; /* as in belfrymist_entry_answer */
+    size_t next;                       /* where the reading head stands then */
+} belfrymist_step_answer;
+
+typedef struct {
+    size_t number, place;
+} belfrymist_held_answer;
+
+typedef struct {
+    size_t at;     /* the part begins at this byte of the card */
+    size_t length; /* 512, or 0 for the empty part */
+} belfrymist_part_answer;
+
+typedef struct {
+    size_t number, place;
+    size_t length; /* bytes of the card that was written */
+} belfrymist_write_answer;
+
+typedef struct {
+    size_t number, place;
+    size_t verdict;
+    size_t length;     /* letters of the sequence that was given, m + l - 1; 0 for none and unsettled */
+    size_t placements; /* that the walk took; the budget, for unsettled; 0 on a pair card */
+} belfrymist_build_answer;
+
+/* Admits a card: tests all of it, and answers its kind, l and m.
+ * Refuses, the first of these that holds: 1; in block 0: 2, 3, 4, 5, 6, 7, 8; 9; then in each later block in turn: 2, 3, its entries in
+ * turn (10 before 11), 8. These are "the reader's refusals" below.
+ * All of card_len is the card: a byte after it gives 9. */
+belfrymist_admit_answer belfrymist_admit(const uint8_t *card, size_t card_len);
+
+/* Fetches entry i, from 0. The card is admitted first.
+ * Refuses: the reader's refusals, then 14 where i is m or more. */
+belfrymist_entry_answer belfrymist_entry(const uint8_t *card, size_t card_len, size_t i);
+
+/* A step of a reading head that stands at an entry, from 0: the entry, and in `next` the head moved one on. The card is admitted first.
+ * At m or beyond it is the end: every field is 0, so that shape BELFRYMIST_NO_ENTRY with number 0 tells it.
+ * Refuses: the reader's refusals, never 14. */
+belfrymist_step_answer belfrymist_step(const uint8_t *card, size_t card_len, size_t at);
+
+/* Whether block k, from 0, is there and its check and index hold: number 0 says so. The block need belong to no card that can be admitted.
+ * Refuses: 14 where its 512 bytes are not all there, at 0; then 2, at k; then 3, at k. */
+belfrymist_held_answer belfrymist_companion(const uint8_t *card, size_t card_len, size_t k);
+
+/* Where in the card the 512 bytes of block k stand: card + at, no copy. Has no refusal of its own: length is 0, and at too, exactly where
+ * belfrymist_companion refuses with the same arguments, and that tells why. Block 0 has at 0 and length 512. */
+belfrymist_part_answer belfrymist_fetch(const uint8_t *card, size_t card_len, size_t k);
+
+/* Writes the card of this kind and l whose entry i is words[i], ones[i], twos[i]: the word, place one and place two, as a card stores them.
+ * m is the length of the lists. The card stands at the start of out, `length` bytes of it: 512 * (1 + ceil(m / 63)); later bytes are
+ * untouched. BELFRYMIST_MOST_CARD bytes are room for every card.
+ * Refuses, the first of these that holds: 5; 6; 13; 7; each entry in turn, 10 before 11; 12 where out has fewer bytes than the card. */
+belfrymist_write_answer belfrymist_write(size_t kind, size_t l, const uint32_t *words, size_t words_len, const uint16_t *ones,
+                                         size_t ones_len, const uint16_t *twos, size_t twos_len, uint8_t *out, size_t out_len);
+
+/* Builds the sequence of a card. The card is admitted first. The verdict is over all sequences whose words, in order, can be matched one to
+ * one with the card's entries, each at an allowed place.
+ * Sole and several: the letters stand at the start of out, `length` of them, as ASCII capitals with no zero after them; later bytes are
+ * untouched. None and unsettled: no byte of out is touched, and length is 0.
+ * The budget bounds the placements of the walk on a span card, and with them the time; a pair card is always settled, with 0
+ * placements. A settled answer is the same under every larger budget.
+ * Refuses: the reader's refusals, then 12 where out has fewer than m + l - 1 bytes, whichever verdict would follow.
+ * BELFRYMIST_MOST_SEQUENCE bytes are room for every card. */
+belfrymist_build_answer belfrymist_build(const uint8_t *card, size_t card_len, uint32_t budget, uint8_t *out, size_t out_len);
+
+#ifdef __cplusplus
+}
+#endif
+
+#endif

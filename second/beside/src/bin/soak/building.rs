@@ -1,0 +1,106 @@
+//! Calls that build from a card.
+
+use beside::{firmware, independent};
+use second::build::find;
+use second::cards::Random;
+use second::for_builds::any_room;
+use second::reader;
+use second::verdict::{Found, Verdict};
+
+use crate::lent::Lent;
+use crate::{card_changed, difference, hex, output_differs, Soak};
+
+/// The largest budget that is tried on a card which it does not settle.
+const MOST: u32 = 100_000;
+/// A walk of more placements is made a few times alone.
+const LONG: u32 = 1000;
+
+impl Soak {
+    /// Makes the building calls on this card.
+    pub fn build(&mut self, random: &mut Random, card: &Lent<u8>) -> Result<(), String> {
+        for (budget, room) in calls(random, card.elements()) {
+            self.build_once(random, card, budget, room)?;
+        }
+        Ok(())
+    }
+
+    /// Makes one call on both sides and describes a difference, if there is one.
+    fn build_once(
+        &mut self,
+        random: &mut Random,
+        card: &Lent<u8>,
+        budget: u32,
+        room: usize,
+    ) -> Result<(), String> {
+        if self.is_done() {
+            return Ok(());
+        }
+        let mut out = Lent::drawn(random, room);
+        let library = firmware::build(card.elements(), budget, out.elements_mut());
+        let second = independent::build(card.wanted(), budget, out.wanted_mut());
+        self.tally.count_build(&second);
+        let differs = difference(library, second)
+            .or_else(|| output_differs(&out))
+            .or_else(|| card_changed(card));
+        match differs {
+            None => Ok(()),
+            Some(what) => Err(format!(
+                "call {}: build with budget {budget} into {room} bytes, from a card of {} bytes\n{what}\ncard {}",
+                self.tally.calls(),
+                card.wanted().len(),
+                hex(card.wanted()),
+            )),
+        }
+    }
+}
+
+/// The budgets and rooms that a card is built with.
+fn calls(random: &mut Random, card: &[u8]) -> Vec<(u32, usize)> {
+    match reader::entries(card) {
+        Err(_) => {
+            let rooms = [0, any_room(random, 4), random.below(600)];
+            rooms.map(|room| (any_number(random), room)).to_vec()
+        }
+        Ok((profile, entries)) => {
+            let own = find(&profile, &entries, MOST);
+            let need = profile.build_length();
+            let mut calls = Vec::new();
+            for budget in budgets(random, &own) {
+                calls.push((budget, enough(random, need)));
+                // A walk that is long is not made for the sake of a room alone.
+                let room = any_room(random, need);
+                if own.placements <= LONG || room < need {
+                    calls.push((budget, room));
+                }
+            }
+            calls
+        }
+    }
+}
+
+/// Budgets around a card's own placements, as far as these are known.
+fn budgets(random: &mut Random, own: &Found) -> Vec<u32> {
+    let n = own.placements;
+    let any = any_number(random);
+    let less = random.below(n as usize + 1) as u32;
+    if own.verdict == Verdict::Unsettled {
+        return vec![0, less >> random.below(16), random.pick(&[less, MOST])];
+    }
+    match n {
+        // Pair cards among others.
+        0 => vec![0, 1, any, random.pick(&[7, 1000, u32::MAX])],
+        1..=LONG => vec![0, n - 1, n, n + 1, less, any],
+        _ => vec![n - 1, n, random.pick(&[0, less, n + 1, u32::MAX])],
+    }
+}
+
+/// Any number, of any size.
+fn any_number(random: &mut Random) -> u32 {
+    (random.draw() >> random.between(32, 63)) as u32
+}
+
+/// Some room that is enough for a build of this length.
+fn enough(random: &mut Random, length: usize) -> usize {
+    let more = length + random.below(84);
+    random.pick(&[length, length, length + 1, more])
+}

@@ -1,0 +1,149 @@
+//! Sets the compiled library beside `second`, call by call.
+//!
+//! `soak COUNT [SEED]` makes COUNT calls on cards and lists that are drawn
+//! from the seed, builds above all. It stops at the first difference with exit
+//! status 1. At the end it says how often each answer came, so that a run that
+//! tried nothing can be told from one that did.
+
+mod building;
+mod inputs;
+mod lent;
+mod lists;
+mod reading;
+mod tally;
+mod writing;
+
+use std::fmt::Debug;
+use std::process::ExitCode;
+
+use second::cards::{any_card, Random};
+
+use inputs::{any_buildable_card, damaged};
+use lent::Lent;
+use tally::Tally;
+
+/// The seed where none is given.
+const SEED: u64 = 1;
+/// The damaged copies of each sound card.
+const COPIES: usize = 2;
+/// From so many calls on, no answer of a build may be missing.
+const ENOUGH: u64 = 100_000;
+
+/// What has been compared so far, and how much is wanted.
+struct Soak {
+    wanted: u64,
+    tally: Tally,
+}
+
+impl Soak {
+    /// Says whether all wanted calls were made.
+    fn is_done(&self) -> bool {
+        self.tally.calls() == self.wanted
+    }
+
+    /// Makes all wanted calls.
+    fn run(&mut self, seed: u64) -> Result<(), String> {
+        let mut random = Random::new(seed);
+        self.run_beyond_the_index(&mut random)?;
+        self.run_beyond_the_count(&mut random)?;
+        while !self.is_done() {
+            let sound = any_buildable_card(&mut random);
+            self.on_card(&mut random, &sound)?;
+            for _ in 0..COPIES {
+                let copy = damaged(&mut random, &sound);
+                self.on_card(&mut random, &copy)?;
+            }
+            if random.once_in(4) {
+                let card = any_card(&mut random);
+                self.on_card(&mut random, &card)?;
+            }
+            self.write(&mut random)?;
+        }
+        Ok(())
+    }
+
+    /// Makes all calls on this card.
+    fn on_card(&mut self, random: &mut Random, card: &[u8]) -> Result<(), String> {
+        if self.is_done() {
+            return Ok(());
+        }
+        let lent = Lent::new(random, card);
+        self.build(random, &lent)?;
+        self.read(random, &lent)?;
+        self.round(random, &lent)
+    }
+
+    /// Says how often each answer came, and what a long run should not be without.
+    fn report(&self) -> Result<(), String> {
+        print!("{}", self.tally.lines());
+        match self.tally.missing() {
+            Some(what) if self.tally.calls() >= ENOUGH => Err(format!("no build was {what}")),
+            _ => Ok(()),
+        }
+    }
+}
+
+/// Both answers, where they differ.
+fn difference<T: Debug + PartialEq>(library: T, second: T) -> Option<String> {
+    (library != second).then(|| format!("library {library:?}\nsecond  {second:?}"))
+}
+
+/// Says which byte of a card was changed, if there is one.
+fn card_changed(card: &Lent<u8>) -> Option<String> {
+    let at = card.differs()?;
+    Some(format!(
+        "byte {at} of the card was changed (guard bytes are outside it)"
+    ))
+}
+
+/// Says which byte of an output differs from what it must be, if there is one.
+fn output_differs(out: &Lent<u8>) -> Option<String> {
+    let at = out.differs()?;
+    Some(format!(
+        "byte {at} of the output differs (guard bytes are outside it)\nlibrary {}\nwanted  {}",
+        hex(out.elements()),
+        hex(out.wanted()),
+    ))
+}
+
+/// The bytes in hexadecimal, so that the card can be made again; a very long card is cut.
+fn hex(bytes: &[u8]) -> String {
+    const SHOWN: usize = 8192;
+    let shown = bytes.iter().take(SHOWN);
+    let mut text: String = shown.map(|byte| format!("{byte:02x}")).collect();
+    if bytes.len() > SHOWN {
+        text.push_str(" and more");
+    }
+    text
+}
+
+/// The wanted calls and the seed, if the arguments are in order.
+fn arguments() -> Option<(u64, u64)> {
+    let arguments: Vec<String> = std::env::args().skip(1).collect();
+    match arguments.as_slice() {
+        [count] => Some((count.parse().ok()?, SEED)),
+        [count, seed] => Some((count.parse().ok()?, seed.parse().ok()?)),
+        _ => None,
+    }
+}
+
+fn main() -> ExitCode {
+    let Some((wanted, seed)) = arguments() else {
+        eprintln!("usage: soak COUNT [SEED]");
+        return ExitCode::from(2);
+    };
+    let mut soak = Soak {
+        wanted,
+        tally: Tally::default(),
+    };
+    if let Err(what) = soak.run(seed) {
+        println!("soak: difference with seed {seed}, {what}");
+        return ExitCode::FAILURE;
+    }
+    if let Err(what) = soak.report() {
+        println!("soak: a hollow run, {what}");
+        return ExitCode::FAILURE;
+    }
+    println!("soak: {} calls, 0 differences", soak.tally.calls());
+    ExitCode::SUCCESS
+}

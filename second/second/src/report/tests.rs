@@ -1,0 +1,89 @@
+//! Tests of what the program prints.
+
+use super::*;
+use crate::cards::put_right;
+use crate::entry::Stored;
+use crate::examples::{plain, s1};
+use crate::lists::Lists;
+use crate::tables::tables;
+
+#[test]
+fn the_s1_card() {
+    assert_eq!(report(&s1()), "CARD span 2 4\nseveral ACAGA 8\n");
+}
+
+#[test]
+fn the_twelve_tables() {
+    let wanted = [
+        "CARD pair 2 4\nseveral ACAGA 0\n",
+        "CARD pair 2 4\nsole ACAGA 0\n",
+        "CARD pair 2 4\nsole AGACA 0\n",
+        "CARD pair 2 4\nnone 0\n",
+        "CARD pair 2 2\nsole AAA 0\n",
+        "CARD pair 2 1\nsole AC 0\n",
+        "CARD pair 2 2\nnone 0\n",
+        "CARD span 2 4\nseveral ACAGA 8\n",
+        "CARD span 2 4\nsole ACAGA 4\n",
+        "CARD span 2 4\nnone 2\n",
+        "CARD span 2 3\nsole AAAA 3\n",
+        "CARD span 2 2\nnone 0\n",
+    ];
+    for (table, lines) in tables().iter().zip(wanted) {
+        let card = table.lists.card().expect("a sound table");
+        assert_eq!(report(&card), lines, "{}", table.name);
+    }
+}
+
+#[test]
+fn what_is_no_card() {
+    assert_eq!(report(&[]), "refused 1 0\n");
+    assert_eq!(report(&s1()[..511]), "refused 1 0\n");
+    assert_eq!(report(&[0; 512]), "refused 4 0\n");
+    assert_eq!(report(&[255; 512]), "refused 2 0\n");
+}
+
+#[test]
+fn bytes_after_the_card() {
+    for bytes in [&b"\n"[..], &[0; 512], &s1()] {
+        let card = [&s1(), bytes].concat();
+        assert_eq!(report(&card), "refused 9 0\n");
+    }
+    assert_eq!(report(&s1()[..1023]), "refused 9 0\n");
+}
+
+#[test]
+fn a_refusal_and_its_place() {
+    let mut card = s1();
+    card[520] = 16;
+    assert_eq!(report(&card), "refused 2 1\n");
+    put_right(&mut card, 1);
+    assert_eq!(report(&card), "refused 10 1\n");
+    card[520] = 15;
+    card[526] = 4;
+    put_right(&mut card, 1);
+    assert_eq!(report(&card), "refused 11 1\n");
+    let mut card = plain(Kind::Pair, 3, 64).lay_out();
+    card[2 * 512 + 508] = 3;
+    put_right(&mut card, 2);
+    assert_eq!(report(&card), "refused 3 2\n");
+}
+
+/// The words of ACAGACAG over and over, which has very many builds but for the TT at its end.
+fn without_an_end() -> Lists {
+    let mut lists = Lists::empty(2, 2);
+    for place in 0..60u16 {
+        let word = [1, 4, 2, 8][usize::from(place) % 4];
+        let (one, two) = (place.saturating_sub(3), (place + 4).min(60));
+        lists.push(Stored { word, one, two });
+    }
+    // TT is due at the last place, and no word ends in T.
+    let (word, one, two) = (15, 60, 60);
+    lists.push(Stored { word, one, two });
+    lists
+}
+
+#[test]
+fn a_walk_beyond_the_budget_of_the_program() {
+    let card = without_an_end().card().expect("sound lists");
+    assert_eq!(report(&card), "CARD span 2 61\nunsettled 1000000\n");
+}

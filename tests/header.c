@@ -1,0 +1,162 @@
+/* header FOLDER: calls every function of include/belfrymist.h through it, on the cards S1, P1 and S5 of FOLDER, and looks at each answer
+ * and at every byte of each output. What is expected is stated here, from the scope document. */
+#include <stdio.h>
+#include <stdlib.h>
+#include <string.h>
+
+#include "belfrymist.h"
+
+#define FIELDS(type, count) \
+    typedef char type##_has_##count##_fields[sizeof(type) == (count) * sizeof(size_t) ? 1 : -1]
+FIELDS(belfrymist_admit_answer, 5);
+FIELDS(belfrymist_entry_answer, 6);
+FIELDS(belfrymist_step_answer, 7);
+FIELDS(belfrymist_held_answer, 2);
+FIELDS(belfrymist_part_answer, 2);
+FIELDS(belfrymist_write_answer, 3);
+FIELDS(belfrymist_build_answer, 5);
+
+enum { CARD = 1024, GUARD = 64, UNTOUCHED = 0xA5 };
+
+static int asked, wrong;
+
+static void want(int line, int holds)
+{
+    asked++;
+    if (!holds) {
+        wrong++;
+        fprintf(stderr, "header.c:%d: not so\n", line);
+    }
+}
+#define WANT(holds) want(__LINE__, (holds) ? 1 : 0)
+
+/* The fields of an answer, in their order, are these numbers. */
+#define ANSWERS(type, call, ...)                              \
+    do {                                                      \
+        type got = call;                                      \
+        size_t expected[] = {__VA_ARGS__};                    \
+        WANT(sizeof got == sizeof expected);                  \
+        WANT(memcmp(&got, expected, sizeof got) == 0);        \
+    } while (0)
+
+static void read_card(const char *folder, const char *name, uint8_t *card)
+{
+    char path[4096];
+    FILE *file;
+    snprintf(path, sizeof path, "%s/%s.card", folder, name);
+    file = fopen(path, "rb");
+    if (file == NULL || fread(card, 1, CARD, file) != CARD || fgetc(file) != EOF) {
+        fprintf(stderr, "header: %s is no card of %d bytes\n", path, CARD);
+        exit(2);
+    }
+    fclose(file);
+}
+
+/* From byte `from` on, all bytes of an output and its guard are as they were. */
+static int untouched(const uint8_t *out, size_t from, size_t size)
+{
+    while (from < size)
+        if (out[from++] != UNTOUCHED)
+            return 0;
+    return 1;
+}
+
+static void reading(const uint8_t *s1)
+{
+    ANSWERS(belfrymist_admit_answer, belfrymist_admit(s1, CARD), 0, 0, BELFRYMIST_SPAN, 2, 4);
+    ANSWERS(belfrymist_admit_answer, belfrymist_admit(s1, CARD - 1), BELFRYMIST_REFUSED_SIZE, 0, 0, 0, 0);
+    ANSWERS(belfrymist_admit_answer, belfrymist_admit(s1, 511), BELFRYMIST_REFUSED_SHORT, 0, 0, 0, 0);
+    ANSWERS(belfrymist_admit_answer, belfrymist_admit(NULL, 0), BELFRYMIST_REFUSED_SHORT, 0, 0, 0, 0);
+
+    ANSWERS(belfrymist_entry_answer, belfrymist_entry(s1, CARD, 0), 0, 0, BELFRYMIST_A_SPAN, 1, 0, 2);
+    ANSWERS(belfrymist_entry_answer, belfrymist_entry(s1, CARD, 3), 0, 0, BELFRYMIST_A_SPAN, 8, 1, 3);
+    ANSWERS(belfrymist_entry_answer, belfrymist_entry(s1, CARD, 4), BELFRYMIST_REFUSED_ABSENT, 0, 0, 0, 0, 0);
+    ANSWERS(belfrymist_entry_answer, belfrymist_entry(NULL, 0, 0), BELFRYMIST_REFUSED_SHORT, 0, 0, 0, 0, 0);
+
+    ANSWERS(belfrymist_step_answer, belfrymist_step(s1, CARD, 2), 0, 0, BELFRYMIST_A_SPAN, 2, 0, 2, 3);
+    ANSWERS(belfrymist_step_answer, belfrymist_step(s1, CARD, 4), 0, 0, BELFRYMIST_NO_ENTRY, 0, 0, 0, 0);
+    ANSWERS(belfrymist_step_answer, belfrymist_step(s1, CARD, SIZE_MAX), 0, 0, BELFRYMIST_NO_ENTRY, 0, 0, 0, 0);
+    ANSWERS(belfrymist_step_answer, belfrymist_step(NULL, 0, 0), BELFRYMIST_REFUSED_SHORT, 0, 0, 0, 0, 0, 0);
+}
+
+static void blocks(uint8_t *s1)
+{
+    ANSWERS(belfrymist_held_answer, belfrymist_companion(s1, CARD, 1), 0, 0);
+    ANSWERS(belfrymist_held_answer, belfrymist_companion(s1, CARD, 2), BELFRYMIST_REFUSED_ABSENT, 0);
+    ANSWERS(belfrymist_held_answer, belfrymist_companion(s1, CARD, SIZE_MAX), BELFRYMIST_REFUSED_ABSENT, 0);
+    ANSWERS(belfrymist_held_answer, belfrymist_companion(NULL, 0, 0), BELFRYMIST_REFUSED_ABSENT, 0);
+    ANSWERS(belfrymist_held_answer, belfrymist_companion(s1 + BELFRYMIST_BLOCK, BELFRYMIST_BLOCK, 0), BELFRYMIST_REFUSED_INDEX, 0);
+
+    ANSWERS(belfrymist_part_answer, belfrymist_fetch(s1, CARD, 0), 0, BELFRYMIST_BLOCK);
+    ANSWERS(belfrymist_part_answer, belfrymist_fetch(s1, CARD, 1), BELFRYMIST_BLOCK, BELFRYMIST_BLOCK);
+    ANSWERS(belfrymist_part_answer, belfrymist_fetch(s1, CARD, 2), 0, 0);
+    ANSWERS(belfrymist_part_answer, belfrymist_fetch(NULL, 0, 0), 0, 0);
+
+    s1[BELFRYMIST_BLOCK] ^= 1;
+    ANSWERS(belfrymist_held_answer, belfrymist_companion(s1, CARD, 1), BELFRYMIST_REFUSED_CHECK, 1);
+    ANSWERS(belfrymist_part_answer, belfrymist_fetch(s1, CARD, 1), 0, 0);
+    ANSWERS(belfrymist_admit_answer, belfrymist_admit(s1, CARD), BELFRYMIST_REFUSED_CHECK, 1, 0, 0, 0);
+    s1[BELFRYMIST_BLOCK] ^= 1;
+}
+
+static void writing(const uint8_t *s1)
+{
+    static const uint32_t words[] = {1, 4, 2, 8};
+    static const uint16_t ones[] = {0, 1, 0, 1}, twos[] = {2, 3, 2, 3}, wide[] = {2, 3, 2, 4};
+    uint8_t out[CARD + GUARD];
+
+    memset(out, UNTOUCHED, sizeof out);
+    ANSWERS(belfrymist_write_answer, belfrymist_write(BELFRYMIST_SPAN, 2, words, 4, ones, 4, twos, 4, out, CARD - 1),
+            BELFRYMIST_REFUSED_ROOM, 0, 0);
+    ANSWERS(belfrymist_write_answer, belfrymist_write(BELFRYMIST_SPAN, 2, words, 4, ones, 4, twos, 4, NULL, 0),
+            BELFRYMIST_REFUSED_ROOM, 0, 0);
+    ANSWERS(belfrymist_write_answer, belfrymist_write(BELFRYMIST_SPAN, 2, words, 4, ones, 4, wide, 4, out, CARD),
+            BELFRYMIST_REFUSED_PLACES, 3, 0);
+    ANSWERS(belfrymist_write_answer, belfrymist_write(BELFRYMIST_SPAN, 2, words, 4, ones, 4, twos, 3, out, CARD),
+            BELFRYMIST_REFUSED_LISTS, 0, 0);
+    ANSWERS(belfrymist_write_answer, belfrymist_write(BELFRYMIST_SPAN, 2, NULL, 0, NULL, 0, NULL, 0, out, CARD),
+            BELFRYMIST_REFUSED_COUNT, 0, 0);
+    ANSWERS(belfrymist_write_answer, belfrymist_write(3, 2, words, 4, ones, 4, twos, 4, out, CARD), BELFRYMIST_REFUSED_KIND, 0, 0);
+    WANT(untouched(out, 0, sizeof out));
+    ANSWERS(belfrymist_write_answer, belfrymist_write(BELFRYMIST_SPAN, 2, words, 4, ones, 4, twos, 4, out, CARD), 0, 0, CARD);
+    WANT(memcmp(out, s1, CARD) == 0);
+    WANT(untouched(out, CARD, sizeof out));
+}
+
+static void building(const uint8_t *s1, const uint8_t *p1, const uint8_t *s5)
+{
+    uint8_t out[5 + GUARD];
+
+    memset(out, UNTOUCHED, sizeof out);
+    ANSWERS(belfrymist_build_answer, belfrymist_build(s1, CARD, 7, out, 5), 0, 0, BELFRYMIST_UNSETTLED, 0, 7);
+    ANSWERS(belfrymist_build_answer, belfrymist_build(s1, CARD, 8, out, 4), BELFRYMIST_REFUSED_ROOM, 0, 0, 0, 0);
+    ANSWERS(belfrymist_build_answer, belfrymist_build(s1, CARD, 8, NULL, 0), BELFRYMIST_REFUSED_ROOM, 0, 0, 0, 0);
+    ANSWERS(belfrymist_build_answer, belfrymist_build(s5, CARD, 0, out, 3), 0, 0, BELFRYMIST_NONE, 0, 0);
+    ANSWERS(belfrymist_build_answer, belfrymist_build(s1, CARD - 1, 8, out, 5), BELFRYMIST_REFUSED_SIZE, 0, 0, 0, 0);
+    ANSWERS(belfrymist_build_answer, belfrymist_build(NULL, 0, 8, NULL, 0), BELFRYMIST_REFUSED_SHORT, 0, 0, 0, 0);
+    WANT(untouched(out, 0, sizeof out));
+    ANSWERS(belfrymist_build_answer, belfrymist_build(s1, CARD, 8, out, 5), 0, 0, BELFRYMIST_SEVERAL, 5, 8);
+    WANT(memcmp(out, "ACAGA", 5) == 0 && untouched(out, 5, sizeof out));
+    memset(out, UNTOUCHED, sizeof out);
+    ANSWERS(belfrymist_build_answer, belfrymist_build(p1, CARD, 0, out, sizeof out), 0, 0, BELFRYMIST_SEVERAL, 5, 0);
+    WANT(memcmp(out, "ACAGA", 5) == 0 && untouched(out, 5, sizeof out));
+}
+
+int main(int count, char **arguments)
+{
+    uint8_t s1[CARD], p1[CARD], s5[CARD], s1_before[CARD];
+
+    if (count != 2)
+        return 2;
+    read_card(arguments[1], "s1", s1);
+    read_card(arguments[1], "p1", p1);
+    read_card(arguments[1], "s5", s5);
+    memcpy(s1_before, s1, CARD);
+    reading(s1);
+    blocks(s1);
+    writing(s1);
+    building(s1, p1, s5);
+    WANT(memcmp(s1, s1_before, CARD) == 0);
+    printf("header: %d asked, %d wrong\n", asked, wrong);
+    return wrong != 0;
+}

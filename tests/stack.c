@@ -1,0 +1,114 @@
+/* stack CARD...: measures the stack that calls take, and holds it to what include/belfrymist.h says. Each call runs on a stack of its own
+ * that was filled with one byte beforehand; what it took reaches down to the lowest byte that differs afterwards. The walk goes one level
+ * deeper with every entry that it places, so that a full card with a build takes the most. */
+#define _GNU_SOURCE
+#include <stdio.h>
+#include <stdlib.h>
+#include <string.h>
+#include <ucontext.h>
+
+#include "belfrymist.h"
+
+enum { ROOM = 1 << 20, FILL = 0x5C };
+
+static uint8_t room[ROOM];
+static ucontext_t here, there;
+static const uint8_t *lowest_own;
+static void (*call)(void);
+
+static uint8_t card[BELFRYMIST_MOST_CARD + 1], out[BELFRYMIST_MOST_CARD];
+static uint32_t words[BELFRYMIST_MOST_ENTRIES];
+static uint16_t ones[BELFRYMIST_MOST_ENTRIES], twos[BELFRYMIST_MOST_ENTRIES];
+static size_t length, m, kind, l;
+static volatile size_t seen;
+
+static void on_own_stack(void)
+{
+    uint8_t mark;
+    lowest_own = &mark;
+    call();
+}
+
+static size_t taken(void (*what)(void))
+{
+    size_t i = 0;
+    memset(room, FILL, sizeof room);
+    call = what;
+    getcontext(&there);
+    there.uc_stack.ss_sp = room;
+    there.uc_stack.ss_size = sizeof room;
+    there.uc_link = &here;
+    makecontext(&there, on_own_stack, 0);
+    swapcontext(&here, &there);
+    while (i < sizeof room && room[i] == FILL)
+        i++;
+    return (size_t)(lowest_own - (room + i));
+}
+
+static void admit(void) { seen = belfrymist_admit(card, length).m; }
+static void entry(void) { seen = belfrymist_entry(card, length, m - 1).word; }
+static void step(void) { seen = belfrymist_step(card, length, m - 1).word; }
+static void companion(void) { seen = belfrymist_companion(card, length, 1).number; }
+static void fetch(void) { seen = belfrymist_fetch(card, length, 1).length; }
+static void written(void) { seen = belfrymist_write(kind, l, words, m, ones, m, twos, m, out, sizeof out).length; }
+static void build(void) { seen = belfrymist_build(card, length, 1000000, out, sizeof out).verdict; }
+
+/* Takes up a card that stands in `card`, its entries in the lists. */
+static void take_up(void)
+{
+    belfrymist_admit_answer a = belfrymist_admit(card, length);
+    size_t e;
+    kind = a.kind;
+    l = a.l;
+    m = a.m;
+    for (e = 0; e < m; e++) {
+        belfrymist_entry_answer got = belfrymist_entry(card, length, e);
+        words[e] = (uint32_t)got.word;
+        ones[e] = (uint16_t)got.first;
+        twos[e] = (uint16_t)(got.shape == BELFRYMIST_ONE_PLACE ? BELFRYMIST_NO_SECOND_PLACE : got.second);
+    }
+}
+
+static size_t most_reading, most_building;
+
+static void measure(void)
+{
+    static void (*const reading[])(void) = {admit, entry, step, companion, fetch, written};
+    size_t i, n = taken(build);
+    take_up();
+    most_building = n > most_building ? n : most_building;
+    for (i = 0; m > 0 && i < sizeof reading / sizeof *reading; i++) {
+        n = taken(reading[i]);
+        most_reading = n > most_reading ? n : most_reading;
+    }
+}
+
+/* A full pair card: the words of A and C by turns, each at its own place or two places on. */
+static void full_pair_card(void)
+{
+    size_t e;
+    for (e = 0; e < BELFRYMIST_MOST_ENTRIES; e++) {
+        words[e] = e % 2 == 0 ? 1 : 4;
+        ones[e] = (uint16_t)(e % 4 < 2 ? e : e - 2);
+        twos[e] = (uint16_t)(ones[e] + 2);
+    }
+    length = belfrymist_write(BELFRYMIST_PAIR, 2, words, e, ones, e, twos, e, card, sizeof card).length;
+}
+
+int main(int count, char **names)
+{
+    int i;
+    for (i = 1; i < count; i++) {
+        FILE *file = fopen(names[i], "rb");
+        if (file == NULL)
+            return 2;
+        length = fread(card, 1, sizeof card, file);
+        fclose(file);
+        measure();
+    }
+    full_pair_card();
+    measure();
+    printf("stack: at most %zu bytes to build, and %zu for other calls; the header says %d and %d\n", most_building, most_reading,
+           BELFRYMIST_STACK, BELFRYMIST_STACK_READING);
+    return !(most_building <= BELFRYMIST_STACK && most_reading <= BELFRYMIST_STACK_READING);
+}
