@@ -11,7 +11,7 @@ use Rattle.answers.specs.declared.Refusal.{Refusal}
 use Rattle.answers.specs.Numbers.{Room}
 use Rattle.answers.specs.Answer.{given, refused, first, sound}
 use Rattle.answers.specs.Row.{row}
-use Rattle.answers.proofs.Laws.{first-holds, first-refused, first-last, first-fail}
+use Rattle.answers.proofs.Laws.{first-holds, first-refused, first-both, first-last, first-fail}
 use Rattle.answers.proofs.RowLaws.{row-same}
 use Rattle.entries.specs.declared.Format.{Format}
 use Rattle.entries.specs.Slot.{slotFrom, entriesIn}
@@ -38,6 +38,10 @@ module _ (limit : ℕ) (card : List ℕ) (room : ℕ) where
       → first (buildTests limit card room) sound ≡ refused n p
   unfolding buildTests
   reader-refuses e = first-refused _ sound (readingOrder limit card) e
+
+  pub order-held : first (buildTests limit card room) sound ≡ given sound → first (readingOrder limit card) sound ≡ given sound
+  unfolding buildTests
+  order-held e = first-both _ sound (readingOrder limit card) sound e .0
 
   module _ (e : first (readingOrder limit card) sound ≡ given sound) where
     pub no-room : room < lettersIn (toldBy card) → first (buildTests limit card room) sound ≡ refused Room 0

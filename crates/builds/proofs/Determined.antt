@@ -8,6 +8,7 @@ use contract.Lifetimes.{Lfts}
 use denote.Ref.{now}
 use denote.Triple.Clauses.{AtExit}
 use borrow.Fn.Kinds.{Dens, resT, endedOf}
+use lib.ListN.{length}
 use Rattle.answers.specs.Answer.{Answer, given}
 use Rattle.answers.proofs.Laws.{given-not-refused, refusal-same}
 use Rattle.entries.specs.declared.Slot.{Slot}
@@ -35,14 +36,24 @@ says-one (tells e p) (refuses f) = absurd (given-not-refused (sym e ∙ f))
 says-one (refuses e) (tells f q) = absurd (given-not-refused (sym f ∙ e))
 says-one (refuses e) (refuses f) = refusal-same (sym e ∙ f)
 
+-- so are two answers of any form, enum or struct, that are told from what is said, and the outputs after them
+pub told-one : {R : Type 0} (tell : Answer Outcome → R) (before : List ℕ) {limit budget : ℕ} {card after after′ : List ℕ}
+    {a b : Answer Outcome} {r r′ : R}
+    → Says limit card budget (length before) a
+    → Says limit card budget (length before) b
+    → r ≡ tell a
+    → r′ ≡ tell b
+    → after ≡ lettersAfter a before
+    → after′ ≡ lettersAfter b before
+    → (r ≡ r′) × (after ≡ after′)
+told-one tell before p q e f out out′ =
+    let same = says-one p q in
+    (e ∙ ap tell same ∙ sym f, out ∙ ap (λ (x : Answer Outcome). lettersAfter x before) same ∙ sym out′)
+
 pub builds-one : {limit budget : ℕ} {card before after after′ : List ℕ} {r r′ : BuildAnswer} → Builds limit card budget before r after
     → Builds limit card budget before r′ after′
     → (r ≡ r′) × (after ≡ after′)
-builds-one {before} p q =
-    let same = says-one (p .says) (q .says) in (
-      p .answer ∙ ap answerOf same ∙ sym (q .answer),
-      p .output ∙ ap (λ (a : Answer Outcome). lettersAfter a before) same ∙ sym (q .output),
-    )
+builds-one {before} p q = told-one answerOf before (p .says) (q .says) (p .answer) (q .answer) (p .output) (q .output)
 
 pub build-one : (κs : Lfts 2) (a : Dens κs build.ps) (r r′ : resT build.r κs .Denot) (e e′ : AtExit (endedOf 2 build.ps build.r) κs)
     → build-reads.Post κs a r e

@@ -4,7 +4,8 @@ use mathlib.Core.Path.{_≡_, refl, sym, ap, _∙_}
 use mathlib.Core.List.{List, [], _++_, map, append-nil}
 use Prim.Native.Nat.{ℕ, _+_, _-_, _≤_}
 use native.Mathlib.Omega.{arith}
-use lib.ListN.{length, take, drop, drop-of-length-le, length-take, take-append-drop}
+use lib.ListN.{length, take, drop, drop-of-length-le, length-take, length-map, take-append-drop}
+use lib.Seq.{take-at}
 use Rattle.answers.specs.Answer.{given}
 use Rattle.entries.specs.Slot.{entriesIn}
 use Rattle.entries.specs.Fault.{pair, span}
@@ -67,6 +68,10 @@ module _ (l : ℕ) (ws out : List ℕ) {r : Walked} {k : ℕ} where
   spelled-unsettled e = rw e (refl, refl)
 
 -- ---- the start of a longer output
+
+-- the letters of a sequence are the first bytes of the output that it is written to
+pub letters-start : (s before : List ℕ) → take (length s) (map letterOf s ++ drop (length s) before) ≡ map letterOf s
+letters-start s before = take-at (map letterOf s) (drop (length s) before) (length s) (length-map s letterOf)
 
 module _ (n : ℕ) (before : List ℕ) (room : n ≤ length before) where
   start-then : (s : List ℕ) → length s ≡ length (take n before)

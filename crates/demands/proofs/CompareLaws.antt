@@ -4,8 +4,7 @@ use mathlib.Core.Logic.{_⊎_, inl, ⊎-map}
 use mathlib.Core.List.{List, _++_, map}
 use Prim.Native.Nat.{ℕ, _≤_, _<_}
 use native.Mathlib.Omega.{arith}
-use lib.ListN.{length, take, drop, length-map}
-use lib.Seq.{take-at}
+use lib.ListN.{length, take, drop}
 use Rattle.answers.specs.Answer.{Answer, given, refused, first, sound}
 use Rattle.answers.proofs.Laws.{given-not-refused}
 use Rattle.letters.specs.Letters.{letterOf}
@@ -24,6 +23,7 @@ use Rattle.pairs.proofs.Meant as pairs-meant
 use Rattle.builds.specs.declared.BuildAnswer.{BuildAnswer}
 use Rattle.builds.specs.declared.BuildAnswer.the-variants.{Sole, None, Unsettled}
 use Rattle.builds.specs.Building.{buildTests, slotsOn, Means, on-pairs, on-spans, Says, tells, refuses, answerOf, lettersAfter, Builds}
+use Rattle.builds.proofs.FromLaws.{letters-start}
 use Rattle.builds.proofs.Determined.{says-one}
 use Rattle.demands.specs.Demanded.{Fits, Settles, HasBuild, IsSeveral, Letters, Widened}
 use Rattle.demands.proofs.MeaningLaws.{means-tells, says-means, card-entered}
@@ -134,10 +134,6 @@ several-told (given (settled (sole s) n)) a′ h g k = absurd g
 several-told (given (settled noBuild n)) a′ h g k = absurd g
 several-told (given (unsettled n)) a′ h g k = absurd g
 several-told (refused n p) a′ h g k = absurd g
-
--- the first n bytes of an output that begins with n letters
-letters-start : (t before : List ℕ) → take (length t) (map letterOf t ++ drop (length t) before) ≡ map letterOf t
-letters-start t before = take-at (map letterOf t) (drop (length t) before) (length t) (length-map t letterOf)
 
 sole-narrowed : (o : Outcome) (t before before′ : List ℕ) {k : ℕ} → spans.Narrowed o (settled (sole t) k)
     → (j : ℕ) × (j ≤ k)

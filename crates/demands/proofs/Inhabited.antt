@@ -1,5 +1,5 @@
--- What `table-answered` asks of a card, and `no-later` and `narrowed` of two cards, some cards have: each of the twelve tables of 01
--- is on a card that passes build's tests, and each card widens itself. Assumes nothing.
+-- What `table-answered` asks of a card, and `no-later`, `sole-narrows` and `none-narrows` of two cards, some cards have: each of the twelve
+-- tables of 01 is on a card that passes build's tests, and each card widens itself. Assumes nothing.
 use mathlib.Core.Path.{_≡_, refl, ap, _∙_}
 use mathlib.Core.List.{List, map}
 use Prim.Native.Nat.{ℕ, _+_, _≤_}

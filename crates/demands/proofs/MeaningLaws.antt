@@ -7,7 +7,6 @@ use lib.ListN.{length, length-map}
 use borrow.Author.Tests.{leb-true}
 use Rattle.answers.specs.declared.Refusal.{Refusal}
 use Rattle.answers.specs.Answer.{Answer, given, refused, first, sound}
-use Rattle.answers.proofs.Laws.{first-both}
 use Rattle.answers.proofs.RowLaws.{length-row}
 use Rattle.answers.proofs.Tests.{both}
 use Rattle.entries.specs.declared.Slot.{Slot}
@@ -17,7 +16,6 @@ use Rattle.entries.specs.Fault.{span, leastLength}
 use Rattle.entries.proofs.Laws.{sound-has}
 use Rattle.layout.specs.Bounds.{leastEntries, mostEntries}
 use Rattle.layout.specs.Layout.{toldBy, slotOf}
-use Rattle.card.specs.Reading.{readingOrder}
 use Rattle.card.proofs.FetchingLaws.{admission-given}
 use Rattle.card.proofs.SoundLaws.{Reads, holds-reads}
 use Rattle.lists.proofs.Laws.{accepted-lists}
@@ -35,7 +33,7 @@ use Rattle.builds.specs.declared.BuildAnswer.the-variants.{Sole, Several, None,
 use Rattle.builds.specs.Building.{buildTests, slotsOn, entriesOn, Means, on-pairs, on-spans, Says, tells, refuses, answerOf}
 use Rattle.builds.specs.From.{Sound}
 use Rattle.builds.proofs.SoundLaws.{spans-entered}
-use Rattle.builds.proofs.CardLaws.{its-entries}
+use Rattle.builds.proofs.CardLaws.{order-held, its-entries}
 use Rattle.demands.specs.Demanded.{PlacementsOf}
 
 -- ---- what an outcome means, whichever the kind
@@ -145,10 +143,8 @@ module _ {limit budget room : ℕ} {card : List ℕ} where
 -- the entries of a span card whose tests hold are admitted
 pub card-entered : (card : List ℕ) (room : ℕ) → first (buildTests mostEntries card room) sound ≡ given sound → toldBy card .kind ≡ span
     → spans.Entered (toldBy card .l) (slotsOn card)
-unfolding buildTests
 card-entered card room e k =
-    let order = first-both _ sound (readingOrder mostEntries card) sound e .0 in
-    let admitted = admission-given mostEntries card order in
+    let admitted = admission-given mostEntries card (order-held mostEntries card room e) in
     let own : Sound (toldBy card .kind) (toldBy card .l) (itsWords mostEntries card admitted) (itsOnes mostEntries card admitted)
     (itsTwos mostEntries card admitted) =
     record { hold = accepted-lists (its-accepted mostEntries card admitted) } in
@@ -156,12 +152,8 @@ card-entered card room e k =
 
 -- what a card whose tests hold has: letters, entries, and words of so many letters
 module _ (card : List ℕ) (room : ℕ) (e : first (buildTests mostEntries card room) sound ≡ given sound) where
-  order : first (readingOrder mostEntries card) sound ≡ given sound
-  unfolding buildTests
-  order = first-both _ sound (readingOrder mostEntries card) sound e .0
-
   reads : Reads mostEntries card
-  reads = holds-reads mostEntries card order
+  reads = holds-reads mostEntries card (order-held mostEntries card room e)
 
   pub card-letters : 0 < toldBy card .l
   card-letters = let b = both _ _ (reads .letters) in omega (arith, leb-true leastLength (toldBy card .l) (b .0))

@@ -1,14 +1,11 @@
 -- Each exported contract determines the outcome: two results, with what a lent output holds afterwards, that both meet it at the same input
 -- are equal. `Post` is the contract as it is read from the source. Assumes nothing.
-use mathlib.Core.Path.{_≡_, sym, ap, _∙_}
+use mathlib.Core.Path.{_≡_, sym, _∙_}
 use contract.Lifetimes.{Lfts}
 use denote.Ref.{now}
 use denote.Triple.Clauses.{AtExit}
 use borrow.Fn.Kinds.{Dens, resT, endedOf}
-use Rattle.answers.specs.Answer.{Answer}
-use Rattle.sequence.specs.Verdict.{Outcome}
-use Rattle.builds.specs.Building.{lettersAfter}
-use Rattle.builds.proofs.Determined.{says-one}
+use Rattle.builds.proofs.Determined.{told-one}
 use Rattle.firmware.specs.Building.{buildAnswer}
 use Rattle.firmware.proofs.belfrymist_admit.Kinds as admit
 use Rattle.firmware.proofs.belfrymist_admit.Reads as admit-reads
@@ -59,8 +56,4 @@ write-one κs a r r′ e e′ p q = (p .0 ∙ sym (q .0), p .1 ∙ sym (q .1))
 -- what build answers, and the output afterwards
 pub build-one : (κs : Lfts 2) (a : Dens κs build.ps) (r r′ : resT build.r κs .Denot) (e e′ : AtExit (endedOf 2 build.ps build.r) κs)
     → build-reads.Post κs a r e → build-reads.Post κs a r′ e′ → (r ≡ r′) × (now (e .1 .1 .0) ≡ now (e′ .1 .1 .0))
-build-one κs a r r′ e e′ p q =
-    let same = says-one (p .says) (q .says) in (
-      p .answer ∙ ap buildAnswer same ∙ sym (q .answer),
-      p .output ∙ ap (λ (x : Answer Outcome). lettersAfter x (now (a .1 .1 .0))) same ∙ sym (q .output),
-    )
+build-one κs a r r′ e e′ p q = told-one buildAnswer (now (a .1 .1 .0)) (p .says) (q .says) (p .answer) (q .answer) (p .output) (q .output)

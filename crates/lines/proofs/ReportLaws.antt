@@ -8,20 +8,19 @@ use mathlib.Core.List.{List, [], _∷_, _++_, map}
 use Prim.Native.Nat.{ℕ, _+_, _≤_}
 use native.Mathlib.Omega.{arith}
 use lib.ListN.{length, take, drop, length-append, length-map}
-use lib.Seq.{take-at}
 use Rattle.answers.specs.Answer.{Answer, given, refused}
-use Rattle.answers.proofs.Laws.{first-both}
 use Rattle.letters.specs.Letters.{letterOf}
 use Rattle.block.specs.Block.{blockBytes}
 use Rattle.block.proofs.PutLaws.{put-start}
 use Rattle.entries.specs.declared.Format.{Format}
 use Rattle.layout.specs.Layout.{toldBy}
-use Rattle.card.specs.Reading.{readingOrder}
 use Rattle.card.proofs.FetchingLaws.{order-admits}
 use Rattle.sequence.specs.Verdict.{sole, several, noBuild, Outcome, settled, unsettled}
 use Rattle.builds.specs.declared.BuildAnswer.{BuildAnswer}
 use Rattle.builds.specs.declared.BuildAnswer.the-variants.{Sole, Several, None, Unsettled, Refused}
-use Rattle.builds.specs.Building.{buildTests, Says, tells, refuses, answerOf, lettersAfter, Builds}
+use Rattle.builds.specs.Building.{Says, tells, refuses, answerOf, lettersAfter, Builds}
+use Rattle.builds.proofs.FromLaws.{letters-start}
+use Rattle.builds.proofs.CardLaws.{order-held}
 use Rattle.text.specs.Text.{ascii, decimal, line}
 use Rattle.lines.specs.Lines.{programBudget, lettersRoom, cardLine, linesOf, Reported}
 use Rattle.text.specs.Putting.{Put}
@@ -49,16 +48,13 @@ IsGiven (Refused r) = ⊥
 
 -- ---- the letters at the start of the buffer
 
-letters-front : (s before : List ℕ) → take (length s) (map letterOf s ++ drop (length s) before) ≡ map letterOf s
-letters-front s before = take-at (map letterOf s) (drop (length s) before) (length s) (length-map s letterOf)
-
 letters-fit : (s before : List ℕ) → length s ≤ length (map letterOf s ++ drop (length s) before)
 letters-fit s before = omega (arith, length-append (map letterOf s) (drop (length s) before), length-map s letterOf)
 
 lines-said : (f : Format) (before : List ℕ) (a : Answer Outcome) → linesBy f (answerOf a) (lettersAfter a before) ≡ linesOf f a
 unfolding linesOf
-lines-said f before (given (settled (sole s) n)) = rw (letters-front s before)
-lines-said f before (given (settled (several s) n)) = rw (letters-front s before)
+lines-said f before (given (settled (sole s) n)) = rw (letters-start s before)
+lines-said f before (given (settled (several s) n)) = rw (letters-start s before)
 lines-said f before (given (settled noBuild n)) = refl
 lines-said f before (given (unsettled n)) = refl
 lines-said f before (refused n p) = refl
@@ -74,8 +70,7 @@ length-said before (refused n p) = omega arith
 
 says-there : {limit budget room : ℕ} {card : List ℕ} {a : Answer Outcome} → Says limit card budget room a → IsGiven (answerOf a)
     → blockBytes ≤ length card
-unfolding buildTests
-says-there {limit} {card} (tells e means) is = order-admits (first-both _ _ (readingOrder limit card) _ e .0) .head .there
+says-there {limit} {room} {card} (tells e means) is = order-admits (order-held limit card room e) .head .there
 says-there (refuses e) is = absurd is
 
 -- ---- what `build` answered, and the letters after it
