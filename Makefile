@@ -26,7 +26,7 @@ program:
 	rt check build
 
 run: program
-	target/bin/build < $(CARD)
+	tests/x86 target/bin/build < $(CARD)
 
 test:
 	.ci/run

@@ -28,7 +28,10 @@ fn run() -> Result<(), String> {
     let mut operations = reading::operations(&cards)?;
     operations.extend(pairing::operations(&pairs)?);
     operations.extend(walking::operations(&walks)?);
-    operations.extend(running::operations(&programs, &runs)?);
+    // The program is x86-64 code: elsewhere an emulator's time would be set beside the processor's own.
+    if cfg!(target_arch = "x86_64") {
+        operations.extend(running::operations(&programs, &runs)?);
+    }
     println!("{}", header());
     for operation in &mut operations {
         println!("{}", line(operation));
