@@ -1,3 +1,2 @@
--- `HashLaws` has what the loops over lists cite, `LineLaws` how many digits a number has.
+-- `HashLaws` has what the loops over lists cite.
 pub mod HashLaws
-pub mod LineLaws

@@ -1,4 +1,3 @@
--- `Hash` is by what a line tells a whole list, `Line` how long a line may be, `Lists` how many slots a list may have.
+-- `Hash` is by what a line tells a whole list, `Record` how long the parts of a record are at the most.
 pub mod Hash
-pub mod Line
-pub mod Lists
+pub mod Record

@@ -6,7 +6,7 @@
 //     H at         step a head at `at`  `step WORD PLACES NEXT`, or `end`
 //     B k          fetch block k        `part LENGTH HASH`
 //     F k          its companion        `holds`
-//     L a b c      admit into lists of a words, b places one and c places two (two bytes each)
+//     L a b c      admit into lists of a words, b places one and c places two
 //                                       `lists KIND L M X Y Z`, with the hash of each list afterwards
 //     W kind l a b c room words ones twos
 //                  write a card of a words (four bytes each), b places one and c places two (two bytes each) into an output of
@@ -15,50 +15,98 @@
 //     R room       admit into lists of 600 slots, and write the card of their first m slots again, into such an output
 //                                       the line of W
 //     G kind l m words ones twos
-//                  sets the card to the one that the writer makes of these lists of m slots each (m in two bytes)
+//                  sets the card to the one that the writer makes of these lists of m slots each
 //     D budget room
 //                  build from the card (the budget in four bytes) into an output of `room` bytes, each of which holds 165 before the call
 //                                       `sole LENGTH PLACEMENTS HASH` or `several`, or `none PLACEMENTS HASH` or `unsettled`
 // A call that refuses prints `refused N P`, for L with the three hashes after it, for W, R and D with the output's. PLACES is `one P`,
-// `two P Q` or `span F G`. i, `at`, k, kind and l have eight bytes; a, b, c and `room` have two, and are at most 600, but `room` of W and
-// R at most 6,400. A record that is none of these, or is cut, ends the run with the line `bad record`.
+// `two P Q` or `span F G`. i, `at`, k, kind and l have eight bytes; a, b, c, m and `room` have two, and are at most 600, but `room` at most
+// 6,400. A record that is none of these, or is cut, ends the run with the line `bad record`.
 mod building;
 mod cards;
-mod fields;
 mod hashes;
-mod lines;
-mod records;
+mod input;
+mod lent;
+mod output;
+mod reading;
 mod writing;
 
 ghost use Prim.Native.Nat.{_≤_};
-ghost use lib.ListN.{length};
+ghost use Rattle.vectors.specs.Record.{fieldBytes};
 use cards::Turn;
-use fields::Tag;
+use input::FIELDS;
 
 // The most bytes of a card.
 const MOST: usize = 6144;
 // A proved loop has to end, and nothing says that standard input does: no run has as many records.
 const TURNS: u32 = 4000000;
 
-// Runs the next record on the card, which is the first n bytes of its buffer.
-fn run(card: &mut [u8], n: usize) -> Turn
-    requires { ⌜ n ≤ length (now card) ⌝ }
-    ensures { λ r. ⌜ r .n ≤ length (now (card .exit)) ⌝ }
+// How many bytes the fields of a record have that stand before its lists or its card.
+fn bytes_of(tag: u8) -> usize
+    ensures { λ r. ⌜ r ≤ fieldBytes ⌝ }
 {
-    let Tag::Is(tag) = fields::next_tag() else {
-        return Turn { n: 0, more: false };
-    };
+    match tag {
+        b'A' => 0,
+        b'R' => 2,
+        b'C' => 4,
+        b'D' | b'L' => 6,
+        b'G' => 18,
+        b'W' => FIELDS,
+        _ => 8,
+    }
+}
+
+// Calls the operation of a tag on the card, prints what it answers, and says whether there is such a record.
+fn answer(tag: u8, fields: &[u8; FIELDS], card: &[u8]) -> bool {
+    match tag {
+        b'A' => reading::admit(card),
+        b'E' => reading::fetch_entry(card, input::eight(fields, 0)),
+        b'H' => reading::step(card, input::eight(fields, 0)),
+        b'B' => reading::fetch(card, input::eight(fields, 0)),
+        b'F' => reading::companion(card, input::eight(fields, 0)),
+        b'L' => reading::admit_into(card, fields),
+        b'R' => writing::again(card, fields),
+        b'D' => building::of_card(card, fields),
+        b'W' => {
+            return writing::of_lists(fields);
+        }
+        _ => {
+            return false;
+        }
+    }
+    true
+}
+
+// Runs a record on the card, which is the first n bytes of its buffer.
+fn run(tag: u8, fields: &[u8; FIELDS], card: &mut [u8], n: usize) -> Turn {
     if tag == b'C' {
-        return cards::set_card(card);
+        return cards::set_card(card, block::four_at(fields, 0) as usize);
     }
     if tag == b'G' {
-        return cards::write_card(card);
+        return cards::write_card(card, fields);
     }
-    if records::answer(tag, &card[..n]) {
-        Turn { n, more: true }
-    } else {
-        cards::bad()
+    if card.len() < n {
+        return cards::bad();
     }
+    if answer(tag, fields, &card[..n]) {
+        output::text(b"\n");
+        return Turn { n, more: true };
+    }
+    cards::bad()
+}
+
+// Reads the next record, and runs it.
+fn next(card: &mut [u8], n: usize) -> Turn {
+    let mut tag = [0u8; 1];
+    if !input::fill(&mut tag) {
+        return Turn { n: 0, more: false };
+    }
+    let mut fields = [0u8; FIELDS];
+    let k = bytes_of(tag[0]);
+    if !input::fill(&mut fields[..k]) {
+        return cards::bad();
+    }
+    run(tag[0], &fields, card, n)
 }
 
 // Runs the records in turn.
@@ -66,7 +114,7 @@ fn run_all(card: &mut [u8]) {
     let mut n = 0;
     let mut turns = TURNS;
     while 0 < turns {
-        let t = run(card, n);
+        let t = next(card, n);
         if !t.more {
             return;
         }

@@ -1,14 +1,12 @@
--- `vectors::run_all` is safe and ends. The invariant: the card is the first n bytes of its buffer. What falls is the number of turns that
--- are left. Assumes nothing.
+-- `vectors::run_all` is safe and ends. What falls is the number of turns that are left. Assumes nothing.
 use borrow.Author.Needs.{needs}
-use Prim.Native.Nat.{_≤_}
 use mathlib.Core.Path.{_≡_}
 use lib.ListN.{length}
 use Rattle.vectors.proofs.run_all.Statement.{statement}
 use Rattle.vectors.proofs.run_all.Tie as tie
 
 abbrev Inv-loop : tie.InvT-loop
-Inv-loop card₀ n₀ turns₀ card n turns = (n ≤ length card) × (length card ≡ length card₀)
+Inv-loop card₀ n₀ turns₀ card n turns = length card ≡ length card₀
 
 abbrev μ-loop : tie.MeasureT-loop
 μ-loop card₀ n₀ turns₀ card n turns = turns
@@ -16,8 +14,8 @@ abbrev μ-loop : tie.MeasureT-loop
 loop-holds : tie.Need-loop-holds Inv-loop μ-loop
 loop-holds c = search needs
 
-run-requires : tie.Need-run-requires Inv-loop μ-loop
-run-requires c κs = search needs
+next-requires : tie.Need-next-requires Inv-loop μ-loop
+next-requires c κs = search needs
 
 same-length : tie.Need-same-length Inv-loop μ-loop
 same-length c = search needs
@@ -47,7 +45,7 @@ run-all-spec =
     Inv-loop
     μ-loop
     loop-holds
-    run-requires
+    next-requires
     same-length
     returns
     sub-turns

@@ -1,4 +1,4 @@
--- `vectors::writing::write_first` meets its contract. Assumes nothing.
+-- `vectors::writing::write_first` is safe: what is written is a part of each list. Assumes nothing.
 use native.Mathlib.Omega.{arith}
 use lib.ListN.{length-take}
 use borrow.Author.Needs.{needs}
@@ -17,6 +17,9 @@ slice-aggregate-write-3 c = simp length-take (omega arith)
 write-requires : tie.Need-write-requires
 write-requires c κs = search needs
 
+tell-requires : tie.Need-tell-requires
+tell-requires c κs = search needs
+
 same-length : tie.Need-same-length
 same-length c = search needs
 
@@ -31,5 +34,6 @@ write-first-spec =
     slice-aggregate-write-2
     slice-aggregate-write-3
     write-requires
+    tell-requires
     same-length
     returns)

@@ -1,18 +1,27 @@
--- `vectors::records::list_into` is safe: each list is a part of its array. Assumes nothing.
-use borrow.Author.Needs.{needs}
+-- `vectors::reading::admit_into` is safe: each list is a part of its array. Assumes nothing.
 use native.Mathlib.Omega.{arith}
 use lib.ListN.{length-take}
-use Rattle.vectors.proofs.records.list_into.Statement.{statement}
-use Rattle.vectors.proofs.records.list_into.Tie as tie
+use borrow.Author.Needs.{needs}
+use Rattle.vectors.proofs.reading.admit_into.Statement.{statement}
+use Rattle.vectors.proofs.reading.admit_into.Tie as tie
 
-returns : tie.Need-returns
-returns c = search needs
+two-requires : tie.Need-two-requires
+two-requires c κs = search needs
 
-returns-2 : tie.Need-returns-2
-returns-2 c = search needs
+two-requires-2 : tie.Need-two-requires-2
+two-requires-2 c κs = search needs
 
-returns-3 : tie.Need-returns-3
-returns-3 c = search needs
+two-requires-3 : tie.Need-two-requires-3
+two-requires-3 c κs = search needs
+
+words-requires : tie.Need-words-requires
+words-requires c κs = search needs
+
+places-requires : tie.Need-places-requires
+places-requires c κs = search needs
+
+places-requires-2 : tie.Need-places-requires-2
+places-requires-2 c κs = search needs
 
 array-borrow-prefix-words : tie.Need-array-borrow-prefix-words
 array-borrow-prefix-words c = search needs
@@ -35,16 +44,19 @@ slice-aggregate-list-3 c = simp length-take (omega arith)
 list-requires : tie.Need-list-requires
 list-requires c κs = search needs
 
-returns-4 : tie.Need-returns-4
-returns-4 c = search needs
+returns : tie.Need-returns
+returns c = search needs
 
-pub list-into-spec : {M : Type 1} → statement M
-list-into-spec =
+pub admit-into-spec : {M : Type 1} → statement M
+admit-into-spec =
     tie.close
     (tie.spec
-    returns
-    returns-2
-    returns-3
+    two-requires
+    two-requires-2
+    two-requires-3
+    words-requires
+    places-requires
+    places-requires-2
     array-borrow-prefix-words
     slice-aggregate-list
     array-borrow-prefix-ones
@@ -52,4 +64,4 @@ list-into-spec =
     array-borrow-prefix-twos
     slice-aggregate-list-3
     list-requires
-    returns-4)
+    returns)

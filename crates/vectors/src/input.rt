@@ -1,0 +1,80 @@
+// What a record has, read from standard input, little-endian: its fields and its lists.
+ghost use mathlib.Core.Path.{_≡_};
+ghost use Prim.Native.Nat.{_+_, _≤_};
+ghost use lib.ListN.{length};
+ghost use Rattle.vectors.specs.Record.{fieldBytes, slots};
+use crate::lent;
+use crate::lent::SLOTS;
+
+// The most bytes that the fields of a record have.
+pub const FIELDS: usize = 24;
+
+// Fills the bytes from the input, and answers whether it has as many.
+pub fn fill(bytes: &mut [u8]) -> bool {
+    io::read_full(libc::STDIN_FILENO, bytes) == bytes.len()
+}
+
+// The field of two bytes from `at` on, or `most` where it says more.
+pub fn two(fields: &[u8; FIELDS], at: usize, most: usize) -> usize
+    requires { ⌜ at + 2 ≤ fieldBytes ⌝ }
+    ensures { λ r. ⌜ r ≤ most ⌝ }
+{
+    let x = block::two_at(fields, at) as usize;
+    if x < most { x } else { most }
+}
+
+// The field of eight bytes from `at` on.
+pub fn eight(fields: &[u8; FIELDS], at: usize) -> usize
+    requires { ⌜ at + 8 ≤ fieldBytes ⌝ }
+{
+    let low = block::four_at(fields, at) as usize;
+    let high = block::four_at(fields, at + 4) as usize;
+    low + 4294967296 * high
+}
+
+// Words, or places, that stand first in a list, and whether the input has as many.
+pub struct WordsRead {
+    pub list: [u32; SLOTS],
+    pub whole: bool,
+}
+
+pub struct PlacesRead {
+    pub list: [u16; SLOTS],
+    pub whole: bool,
+}
+
+// The next n words.
+pub fn words(n: usize) -> WordsRead
+    requires { ⌜ n ≤ slots ⌝ }
+    ensures { λ r. ⌜ length (r .list) ≡ slots ⌝ }
+{
+    let mut list = lent::words();
+    let mut i = 0;
+    while i < n {
+        let mut bytes = [0u8; 4];
+        if !fill(&mut bytes) {
+            return WordsRead { list, whole: false };
+        }
+        list[i] = block::four_at(&bytes, 0);
+        i += 1;
+    }
+    WordsRead { list, whole: true }
+}
+
+// The next n places.
+pub fn places(n: usize) -> PlacesRead
+    requires { ⌜ n ≤ slots ⌝ }
+    ensures { λ r. ⌜ length (r .list) ≡ slots ⌝ }
+{
+    let mut list = lent::places();
+    let mut i = 0;
+    while i < n {
+        let mut bytes = [0u8; 2];
+        if !fill(&mut bytes) {
+            return PlacesRead { list, whole: false };
+        }
+        list[i] = block::two_at(&bytes, 0);
+        i += 1;
+    }
+    PlacesRead { list, whole: true }
+}

@@ -1,0 +1,30 @@
+// What a call is lent, as it is before the call.
+ghost use mathlib.Core.Path.{_≡_};
+ghost use lib.ListN.{length};
+ghost use Rattle.vectors.specs.Record.{slots, room};
+
+// The most slots of a list, and the most bytes of an output.
+pub const SLOTS: usize = 600;
+
+pub const ROOM: usize = 6400;
+
+// A list of words.
+pub fn words() -> [u32; SLOTS]
+    ensures { λ r. ⌜ slots ≡ length r ⌝ }
+{
+    [305419896; SLOTS]
+}
+
+// A list of places.
+pub fn places() -> [u16; SLOTS]
+    ensures { λ r. ⌜ slots ≡ length r ⌝ }
+{
+    [4660; SLOTS]
+}
+
+// An output.
+pub fn output() -> [u8; ROOM]
+    ensures { λ r. ⌜ room ≡ length r ⌝ }
+{
+    [165; ROOM]
+}
