@@ -27,7 +27,7 @@ fn build(card: &[u8], budget: u32, out: &mut [u8]) {
 // Builds from the card, with the budget and into an output of as many bytes as the fields say.
 pub fn of_card(card: &[u8], fields: &[u8; FIELDS]) {
     let budget = block::four_at(fields, 0);
-    let room = input::two(fields, 4, ROOM);
+    let room = input::at_most(fields, 4, ROOM);
     let mut out = lent::output();
     build(card, budget, &mut out[..room])
 }

@@ -40,7 +40,7 @@ fn written(w: Written) -> Turn {
 
 // Sets the card to the one that the writer makes of the lists that follow, of as many slots as the fields say.
 pub fn write_card(card: &mut [u8], fields: &[u8; FIELDS]) -> Turn {
-    let m = input::two(fields, 16, SLOTS);
+    let m = input::at_most(fields, 16, SLOTS);
     match writing::write_lists(fields, m, m, m, card) {
         Wrote::Is(w) => written(w),
         Wrote::Cut => bad(),

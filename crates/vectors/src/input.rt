@@ -15,7 +15,7 @@ pub fn fill(bytes: &mut [u8]) -> bool {
 }
 
 // The field of two bytes from `at` on, or `most` where it says more.
-pub fn two(fields: &[u8; FIELDS], at: usize, most: usize) -> usize
+pub fn at_most(fields: &[u8; FIELDS], at: usize, most: usize) -> usize
     requires { ⌜ at + 2 ≤ fieldBytes ⌝ }
     ensures { λ r. ⌜ r ≤ most ⌝ }
 {
@@ -32,7 +32,7 @@ pub fn eight(fields: &[u8; FIELDS], at: usize) -> usize
     low + 4294967296 * high
 }
 
-// Words, or places, that stand first in a list, and whether the input has as many.
+// What was read of a list of words, or of places: its first slots hold it; and whether the input has as many.
 pub struct WordsRead {
     pub list: [u32; SLOTS],
     pub whole: bool,

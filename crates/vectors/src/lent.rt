@@ -1,4 +1,4 @@
-// What a call is lent, as it is before the call.
+// What a call is lent, as it is before the call. A list that is read from the input begins as these do too.
 ghost use mathlib.Core.Path.{_≡_};
 ghost use lib.ListN.{length};
 ghost use Rattle.vectors.specs.Record.{slots, room};

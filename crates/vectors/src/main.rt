@@ -20,8 +20,8 @@
 //                  build from the card (the budget in four bytes) into an output of `room` bytes, each of which holds 165 before the call
 //                                       `sole LENGTH PLACEMENTS HASH` or `several`, or `none PLACEMENTS HASH` or `unsettled`
 // A call that refuses prints `refused N P`, for L with the three hashes after it, for W, R and D with the output's. PLACES is `one P`,
-// `two P Q` or `span F G`. i, `at`, k, kind and l have eight bytes; a, b, c, m and `room` have two, and are at most 600, but `room` at most
-// 6,400. A record that is none of these, or is cut, ends the run with the line `bad record`.
+// `two P Q` or `span F G`. i, `at`, k, kind and l have eight bytes; a, b, c, m and `room` have two. More than 600 slots count as 600, and more
+// than 6,400 bytes of an output as 6,400. A record that is none of these, or is cut, ends the run with the line `bad record`.
 mod building;
 mod cards;
 mod hashes;
@@ -50,13 +50,14 @@ fn bytes_of(tag: u8) -> usize
         b'R' => 2,
         b'C' => 4,
         b'D' | b'L' => 6,
+        b'B' | b'E' | b'F' | b'H' => 8,
         b'G' => 18,
         b'W' => FIELDS,
-        _ => 8,
+        _ => 0,
     }
 }
 
-// Calls the operation of a tag on the card, prints what it answers, and says whether there is such a record.
+// Calls the operation of a tag on the card, prints what it answers, and says whether there is such a record, and all of it.
 fn answer(tag: u8, fields: &[u8; FIELDS], card: &[u8]) -> bool {
     match tag {
         b'A' => reading::admit(card),
@@ -77,7 +78,7 @@ fn answer(tag: u8, fields: &[u8; FIELDS], card: &[u8]) -> bool {
     true
 }
 
-// Runs a record on the card, which is the first n bytes of its buffer.
+// Runs a record on the card, which is the first n bytes of its buffer: no record leaves it longer than that, and the test is for the proof.
 fn run(tag: u8, fields: &[u8; FIELDS], card: &mut [u8], n: usize) -> Turn {
     if tag == b'C' {
         return cards::set_card(card, block::four_at(fields, 0) as usize);

@@ -79,14 +79,16 @@ fn list(card: &[u8], words: &mut [u32], ones: &mut [u16], twos: &mut [u16]) {
     let y = hashes::of_places(ones);
     let z = hashes::of_places(twos);
     admitted(a, b"lists");
-    output::three(b"", x, y, z)
+    output::number(x);
+    output::number(y);
+    output::number(z)
 }
 
 // Admits the card into lists of as many slots as the fields say.
 pub fn admit_into(card: &[u8], fields: &[u8; FIELDS]) {
-    let a = input::two(fields, 0, SLOTS);
-    let b = input::two(fields, 2, SLOTS);
-    let c = input::two(fields, 4, SLOTS);
+    let a = input::at_most(fields, 0, SLOTS);
+    let b = input::at_most(fields, 2, SLOTS);
+    let c = input::at_most(fields, 4, SLOTS);
     let mut words = lent::words();
     let mut ones = lent::places();
     let mut twos = lent::places();

@@ -61,7 +61,7 @@ pub fn write_lists(fields: &[u8; FIELDS], a: usize, b: usize, c: usize, out: &mu
     ))
 }
 
-// Does that, tells the answer, and answers whether the input has the lists.
+// Reads lists and writes a card of them, tells the answer, and says whether the input has the lists.
 fn write_told(fields: &[u8; FIELDS], a: usize, b: usize, c: usize, out: &mut [u8]) -> bool
     requires { ⌜ (a ≤ slots) × (b ≤ slots) × (c ≤ slots) ⌝ }
 {
@@ -72,12 +72,12 @@ fn write_told(fields: &[u8; FIELDS], a: usize, b: usize, c: usize, out: &mut [u8
     true
 }
 
-// Reads lists of as many slots as the fields say, writes a card of them, and answers whether the input has them.
+// The same with lists of as many slots, and an output of as many bytes, as the fields say.
 pub fn of_lists(fields: &[u8; FIELDS]) -> bool {
-    let a = input::two(fields, 16, SLOTS);
-    let b = input::two(fields, 18, SLOTS);
-    let c = input::two(fields, 20, SLOTS);
-    let room = input::two(fields, 22, ROOM);
+    let a = input::at_most(fields, 16, SLOTS);
+    let b = input::at_most(fields, 18, SLOTS);
+    let c = input::at_most(fields, 20, SLOTS);
+    let room = input::at_most(fields, 22, ROOM);
     let mut out = lent::output();
     write_told(fields, a, b, c, &mut out[..room])
 }
@@ -93,7 +93,7 @@ fn write_first(f: Format, words: &[u32], ones: &[u16], twos: &[u16], out: &mut [
 
 // Admits the card into lists, and writes it again of what they hold then, into an output of as many bytes as the fields say.
 pub fn again(card: &[u8], fields: &[u8; FIELDS]) {
-    let room = input::two(fields, 0, ROOM);
+    let room = input::at_most(fields, 0, ROOM);
     let mut words = lent::words();
     let mut ones = lent::places();
     let mut twos = lent::places();

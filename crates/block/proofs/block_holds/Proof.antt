@@ -1,8 +1,10 @@
 -- `block::block_holds` meets its contract: each return is one law of `blockTests`. Assumes nothing.
 use borrow.Author.Needs.{needs}
+use mathlib.Core.Path.{_≡_, sym, _∙_}
+use mathlib.Core.Bool.{true}
+use Rattle.block.specs.Check.{checks}
 use Rattle.block.specs.Block.{indexOf}
 use Rattle.block.proofs.Laws.{block-unchecked, block-elsewhere, block-sound}
-use mathlib.Core.Path.{sym}
 use Rattle.block.proofs.block_holds.Statement.{statement}
 use Rattle.block.proofs.block_holds.Tie as tie
 
@@ -15,17 +17,22 @@ two-at-requires c κs = search needs
 cast-if2 : tie.Need-cast-if2
 cast-if2 c = search needs
 
-returns : tie.Need-returns
+-- the check's answer, and the index that was read, once the check held
+check-held : (c : tie.Then1) → checks (c .before .before .before .args .block .now) ≡ true
+check-held c = sym (c .before .check-holds .ensures) ∙ c .if1 .taken
+
+index-read : (c : tie.After-two-at) → c .two-at .result ≡ indexOf (c .before .before .before .before .args .block .now)
 unfolding indexOf
-returns c = sym (block-sound _ _ (cc) (cc))
+index-read c = c .two-at .ensures
+
+returns : tie.Need-returns
+returns c = sym (block-sound _ _ (check-held (c .before .before)) (sym (index-read (c .before)) ∙ c .if2 .taken))
 
 returns-2 : tie.Need-returns-2
-unfolding indexOf
-returns-2 c = sym (block-elsewhere _ _ (cc) (λ e. c .if2 .left (cc)))
+returns-2 c = sym (block-elsewhere _ _ (check-held (c .before .before)) (λ e. c .if2 .left (index-read (c .before) ∙ e)))
 
 returns-3 : tie.Need-returns-3
-unfolding indexOf
-returns-3 c = sym (block-unchecked _ _ (cc))
+returns-3 c = sym (block-unchecked _ _ (sym (c .before .check-holds .ensures) ∙ c .if1 .left))
 
 pub block-holds-spec : {M : Type 1} → statement M
 block-holds-spec =

@@ -8,8 +8,8 @@ use Rattle.vectors.proofs.building.of_card.Tie as tie
 four-at-requires : tie.Need-four-at-requires
 four-at-requires c κs = search needs
 
-two-requires : tie.Need-two-requires
-two-requires c κs = search needs
+at-most-requires : tie.Need-at-most-requires
+at-most-requires c κs = search needs
 
 output-requires : tie.Need-output-requires
 output-requires c κs = search needs
@@ -31,7 +31,7 @@ of-card-spec =
     tie.close
     (tie.spec
     four-at-requires
-    two-requires
+    at-most-requires
     output-requires
     array-borrow-prefix-out
     slice-aggregate-build

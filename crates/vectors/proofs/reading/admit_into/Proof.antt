@@ -5,14 +5,14 @@ use borrow.Author.Needs.{needs}
 use Rattle.vectors.proofs.reading.admit_into.Statement.{statement}
 use Rattle.vectors.proofs.reading.admit_into.Tie as tie
 
-two-requires : tie.Need-two-requires
-two-requires c κs = search needs
+at-most-requires : tie.Need-at-most-requires
+at-most-requires c κs = search needs
 
-two-requires-2 : tie.Need-two-requires-2
-two-requires-2 c κs = search needs
+at-most-requires-2 : tie.Need-at-most-requires-2
+at-most-requires-2 c κs = search needs
 
-two-requires-3 : tie.Need-two-requires-3
-two-requires-3 c κs = search needs
+at-most-requires-3 : tie.Need-at-most-requires-3
+at-most-requires-3 c κs = search needs
 
 words-requires : tie.Need-words-requires
 words-requires c κs = search needs
@@ -51,9 +51,9 @@ pub admit-into-spec : {M : Type 1} → statement M
 admit-into-spec =
     tie.close
     (tie.spec
-    two-requires
-    two-requires-2
-    two-requires-3
+    at-most-requires
+    at-most-requires-2
+    at-most-requires-3
     words-requires
     places-requires
     places-requires-2

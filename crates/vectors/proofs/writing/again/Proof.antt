@@ -9,8 +9,8 @@ use borrow.Author.Needs.{needs}
 use Rattle.vectors.proofs.writing.again.Statement.{statement}
 use Rattle.vectors.proofs.writing.again.Tie as tie
 
-two-requires : tie.Need-two-requires
-two-requires c κs = search needs
+at-most-requires : tie.Need-at-most-requires
+at-most-requires c κs = search needs
 
 words-requires : tie.Need-words-requires
 words-requires c κs = search needs
@@ -83,7 +83,7 @@ pub again-spec : {M : Type 1} → statement M
 again-spec =
     tie.close
     (tie.spec
-    two-requires
+    at-most-requires
     words-requires
     places-requires
     places-requires-2

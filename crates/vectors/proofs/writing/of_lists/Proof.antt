@@ -5,17 +5,17 @@ use borrow.Author.Needs.{needs}
 use Rattle.vectors.proofs.writing.of_lists.Statement.{statement}
 use Rattle.vectors.proofs.writing.of_lists.Tie as tie
 
-two-requires : tie.Need-two-requires
-two-requires c κs = search needs
+at-most-requires : tie.Need-at-most-requires
+at-most-requires c κs = search needs
 
-two-requires-2 : tie.Need-two-requires-2
-two-requires-2 c κs = search needs
+at-most-requires-2 : tie.Need-at-most-requires-2
+at-most-requires-2 c κs = search needs
 
-two-requires-3 : tie.Need-two-requires-3
-two-requires-3 c κs = search needs
+at-most-requires-3 : tie.Need-at-most-requires-3
+at-most-requires-3 c κs = search needs
 
-two-requires-4 : tie.Need-two-requires-4
-two-requires-4 c κs = search needs
+at-most-requires-4 : tie.Need-at-most-requires-4
+at-most-requires-4 c κs = search needs
 
 output-requires : tie.Need-output-requires
 output-requires c κs = search needs
@@ -36,10 +36,10 @@ pub of-lists-spec : {M : Type 1} → statement M
 of-lists-spec =
     tie.close
     (tie.spec
-    two-requires
-    two-requires-2
-    two-requires-3
-    two-requires-4
+    at-most-requires
+    at-most-requires-2
+    at-most-requires-3
+    at-most-requires-4
     output-requires
     array-borrow-prefix-out
     slice-aggregate-write-told

@@ -1,5 +1,5 @@
-//! Times the compiled library beside the second implementation, its walk beside the one in plain C, and
-//! the program `build` beside the program `report` of `second`: one table of ratios.
+//! Times the compiled library beside the second implementation, its walk beside the one in plain C, and,
+//! on x86-64, the program `build` beside the program `report` of `second`: one table of ratios.
 
 mod pairing;
 mod reading;
