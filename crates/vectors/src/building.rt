@@ -1,11 +1,11 @@
 // The record that builds from the card, and the line that it prints.
-use crate::hashes;
-use crate::input;
-use crate::input::FIELDS;
-use crate::lent;
-use crate::lent::ROOM;
-use crate::output;
 use builds::BuildAnswer;
+use records::hashes;
+use records::input;
+use records::input::FIELDS;
+use records::lent;
+use records::lent::ROOM;
+use records::output;
 
 // What build answers: the verdict with its numbers, or the refusal.
 fn built(a: BuildAnswer) {

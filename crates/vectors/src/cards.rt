@@ -1,10 +1,10 @@
 // The records that set the card: to bytes of their own, or to what the writer makes of lists.
-use crate::input;
-use crate::input::FIELDS;
-use crate::lent::SLOTS;
-use crate::output;
 use crate::writing;
 use crate::writing::Wrote;
+use records::input;
+use records::input::FIELDS;
+use records::lent::SLOTS;
+use records::output;
 use writer::Written;
 
 // What a record leaves: how many bytes the card has, and whether there is more to read.

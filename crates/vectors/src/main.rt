@@ -24,17 +24,15 @@
 // than 6,400 bytes of an output as 6,400. A record that is none of these, or is cut, ends the run with the line `bad record`.
 mod building;
 mod cards;
-mod hashes;
-mod input;
-mod lent;
-mod output;
 mod reading;
 mod writing;
 
 ghost use Prim.Native.Nat.{_≤_};
-ghost use Rattle.vectors.specs.Record.{fieldBytes};
+ghost use Rattle.records.specs.Record.{fieldBytes};
 use cards::Turn;
-use input::FIELDS;
+use records::input;
+use records::input::FIELDS;
+use records::output;
 
 // The most bytes of a card.
 const MOST: usize = 6144;

@@ -1,10 +1,4 @@
 // The records that read the card, and the line that each prints.
-use crate::hashes;
-use crate::input;
-use crate::input::FIELDS;
-use crate::lent;
-use crate::lent::SLOTS;
-use crate::output;
 use answers::Held;
 use card::Admitted;
 use card::EntryFetch;
@@ -12,6 +6,12 @@ use card::Head;
 use card::Stepped;
 use entries::Entry;
 use entries::Places;
+use records::hashes;
+use records::input;
+use records::input::FIELDS;
+use records::lent;
+use records::lent::SLOTS;
+use records::output;
 
 // What admitting answers: the card's kind, l and m, after a name, or the refusal.
 fn admitted(a: Admitted, name: &[u8]) {

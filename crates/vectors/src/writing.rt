@@ -1,16 +1,16 @@
 // The records that write a card, of their own lists or of what the card holds, and the line that each prints.
 ghost use Prim.Native.Nat.{_≤_};
 ghost use lib.ListN.{length};
-ghost use Rattle.vectors.specs.Record.{slots};
-use crate::hashes;
-use crate::input;
-use crate::input::FIELDS;
-use crate::lent;
-use crate::lent::ROOM;
-use crate::lent::SLOTS;
-use crate::output;
+ghost use Rattle.records.specs.Record.{slots};
 use card::Admitted;
 use entries::Format;
+use records::hashes;
+use records::input;
+use records::input::FIELDS;
+use records::lent;
+use records::lent::ROOM;
+use records::lent::SLOTS;
+use records::output;
 use writer::Written;
 
 // What writing a card of lists comes to, or that the input ends before they do.

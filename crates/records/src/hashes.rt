@@ -1,7 +1,7 @@
 // The hash of a list, by which a line tells the whole list.
 ghost use mathlib.Core.Path.{_≡_};
 ghost use Prim.Native.Nat.{_<_};
-ghost use Rattle.vectors.specs.Hash.{modulus, mixed, hashOf};
+ghost use Rattle.records.specs.Hash.{modulus, mixed, hashOf};
 
 const MODULUS: usize = 65521;
 

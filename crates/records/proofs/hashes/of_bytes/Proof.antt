@@ -1,10 +1,11 @@
--- `vectors::hashes::of_words` meets its contract. The invariant: the hash so far and what is left give the hash of all. Assumes nothing.
+-- `records::hashes::of_bytes` meets its contract. The invariant: the hash so far and what is left give the hash of all. Assumes nothing.
 use borrow.Author.Needs.{needs}
 use Prim.Native.Nat.{_-_}
+use native.Mathlib.Omega.{arith}
 use lib.ListN.{length}
-use Rattle.vectors.proofs.HashLaws.{SoFar, so-far-none, so-far-more, so-far-all}
-use Rattle.vectors.proofs.hashes.of_words.Statement.{statement}
-use Rattle.vectors.proofs.hashes.of_words.Tie as tie
+use Rattle.records.proofs.HashLaws.{SoFar, so-far-none, so-far-more, so-far-all}
+use Rattle.records.proofs.hashes.of_bytes.Statement.{statement}
+use Rattle.records.proofs.hashes.of_bytes.Tie as tie
 
 abbrev Inv-loop : tie.InvT-loop
 Inv-loop s h₀ i₀ h i = SoFar s h i
@@ -15,11 +16,11 @@ abbrev μ-loop : tie.MeasureT-loop
 loop-holds : tie.Need-loop-holds Inv-loop μ-loop
 loop-holds c = so-far-none _
 
-mul-mix : tie.Need-mul-mix Inv-loop μ-loop
-mul-mix c = search needs
-
 shared-slice-read-mix : tie.Need-shared-slice-read-mix Inv-loop μ-loop
 shared-slice-read-mix c = search needs
+
+cast-mix : tie.Need-cast-mix Inv-loop μ-loop
+cast-mix c = omega (arith, c .shared-slice-known2 .given (c .before .before .loop .i))
 
 mix-requires : tie.Need-mix-requires Inv-loop μ-loop
 mix-requires c κs = search needs
@@ -36,15 +37,15 @@ loop-again c = let turn = c .before .before in so-far-more _ (turn .before .loop
 returns : tie.Need-returns Inv-loop μ-loop
 returns c = so-far-all (c .before .loop .inv) (c .loop-test .left)
 
-pub of-words-spec : {M : Type 1} → statement M
-of-words-spec =
+pub of-bytes-spec : {M : Type 1} → statement M
+of-bytes-spec =
     tie.close
     (tie.spec
     Inv-loop
     μ-loop
     loop-holds
-    mul-mix
     shared-slice-read-mix
+    cast-mix
     mix-requires
     add-i
     loop-less

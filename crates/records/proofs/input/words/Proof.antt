@@ -1,12 +1,12 @@
--- `vectors::input::places` meets its contract. The invariant: the list keeps its length. What falls is the number of slots that are left.
+-- `records::input::words` meets its contract. The invariant: the list keeps its length. What falls is the number of slots that are left.
 -- Assumes nothing.
 use borrow.Author.Needs.{needs}
 use Prim.Native.Nat.{_-_}
 use mathlib.Core.Path.{_≡_}
 use lib.ListN.{length}
-use Rattle.vectors.specs.Record.{slots}
-use Rattle.vectors.proofs.input.places.Statement.{statement}
-use Rattle.vectors.proofs.input.places.Tie as tie
+use Rattle.records.specs.Record.{slots}
+use Rattle.records.proofs.input.words.Statement.{statement}
+use Rattle.records.proofs.input.words.Tie as tie
 
 abbrev Inv-loop : tie.InvT-loop
 Inv-loop n list₀ i₀ list i = length list ≡ slots
@@ -14,8 +14,8 @@ Inv-loop n list₀ i₀ list i = length list ≡ slots
 abbrev μ-loop : tie.MeasureT-loop
 μ-loop n list₀ i₀ list i = n - i
 
-places-requires : tie.Need-places-requires Inv-loop μ-loop
-places-requires c κs = search needs
+words-requires : tie.Need-words-requires Inv-loop μ-loop
+words-requires c κs = search needs
 
 loop-holds : tie.Need-loop-holds Inv-loop μ-loop
 loop-holds c = search needs
@@ -29,11 +29,11 @@ fill-requires c κs = search needs
 returns : tie.Need-returns Inv-loop μ-loop
 returns c = search needs
 
-slice-aggregate-two-at : tie.Need-slice-aggregate-two-at Inv-loop μ-loop
-slice-aggregate-two-at c = search needs
+slice-aggregate-four-at : tie.Need-slice-aggregate-four-at Inv-loop μ-loop
+slice-aggregate-four-at c = search needs
 
-two-at-requires : tie.Need-two-at-requires Inv-loop μ-loop
-two-at-requires c κs = search needs
+four-at-requires : tie.Need-four-at-requires Inv-loop μ-loop
+four-at-requires c κs = search needs
 
 mul-list : tie.Need-mul-list Inv-loop μ-loop
 mul-list c = search needs
@@ -53,19 +53,19 @@ loop-again c = search needs
 returns-2 : tie.Need-returns-2 Inv-loop μ-loop
 returns-2 c = search needs
 
-pub places-spec : {M : Type 1} → statement M
-places-spec =
+pub words-spec : {M : Type 1} → statement M
+words-spec =
     tie.close
     (tie.spec
     Inv-loop
     μ-loop
-    places-requires
+    words-requires
     loop-holds
     slice-aggregate-fill
     fill-requires
     returns
-    slice-aggregate-two-at
-    two-at-requires
+    slice-aggregate-four-at
+    four-at-requires
     mul-list
     array-write-list
     add-i

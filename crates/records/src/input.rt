@@ -2,7 +2,7 @@
 ghost use mathlib.Core.Path.{_≡_};
 ghost use Prim.Native.Nat.{_+_, _≤_};
 ghost use lib.ListN.{length};
-ghost use Rattle.vectors.specs.Record.{fieldBytes, slots};
+ghost use Rattle.records.specs.Record.{fieldBytes, slots};
 use crate::lent;
 use crate::lent::SLOTS;
 

@@ -6,7 +6,7 @@ use native.Mathlib.Nat.{mod-lt}
 use native.Mathlib.Omega.{arith}
 use lib.ListN.{length, getD, drop}
 use Rattle.block.proofs.Fold.{fold-turn, fold-end}
-use Rattle.vectors.specs.Hash.{modulus, mixed, hashOf}
+use Rattle.records.specs.Hash.{modulus, mixed, hashOf}
 
 -- h is the hash of the first i elements: what is left of s, from h on, gives the hash of s
 pub record SoFar (s : List ℕ) (h i : ℕ) : Type 0 where

@@ -1,11 +1,11 @@
--- `vectors::hashes::of_places` meets its contract. The invariant: the hash so far and what is left give the hash of all. Assumes nothing.
+-- `records::hashes::of_places` meets its contract. The invariant: the hash so far and what is left give the hash of all. Assumes nothing.
 use borrow.Author.Needs.{needs}
 use Prim.Native.Nat.{_-_}
 use native.Mathlib.Omega.{arith}
 use lib.ListN.{length}
-use Rattle.vectors.proofs.HashLaws.{SoFar, so-far-none, so-far-more, so-far-all}
-use Rattle.vectors.proofs.hashes.of_places.Statement.{statement}
-use Rattle.vectors.proofs.hashes.of_places.Tie as tie
+use Rattle.records.proofs.HashLaws.{SoFar, so-far-none, so-far-more, so-far-all}
+use Rattle.records.proofs.hashes.of_places.Statement.{statement}
+use Rattle.records.proofs.hashes.of_places.Tie as tie
 
 abbrev Inv-loop : tie.InvT-loop
 Inv-loop s h₀ i₀ h i = SoFar s h i

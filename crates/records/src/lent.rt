@@ -1,7 +1,7 @@
 // What a call is lent, as it is before the call. A list that is read from the input begins as these do too.
 ghost use mathlib.Core.Path.{_≡_};
 ghost use lib.ListN.{length};
-ghost use Rattle.vectors.specs.Record.{slots, room};
+ghost use Rattle.records.specs.Record.{slots, room};
 
 // The most slots of a list, and the most bytes of an output.
 pub const SLOTS: usize = 600;
