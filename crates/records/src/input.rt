@@ -2,7 +2,7 @@
 ghost use mathlib.Core.Path.{_≡_};
 ghost use Prim.Native.Nat.{_+_, _≤_};
 ghost use lib.ListN.{length};
-ghost use Rattle.records.specs.Record.{fieldBytes, slots};
+ghost use Rattle.records.specs.Record.{fieldBytes, slots, eightAt};
 use crate::lent;
 use crate::lent::SLOTS;
 
@@ -14,18 +14,10 @@ pub fn fill(bytes: &mut [u8]) -> bool {
     io::read_full(libc::STDIN_FILENO, bytes) == bytes.len()
 }
 
-// The field of two bytes from `at` on, or `most` where it says more.
-pub fn at_most(fields: &[u8; FIELDS], at: usize, most: usize) -> usize
-    requires { ⌜ at + 2 ≤ fieldBytes ⌝ }
-    ensures { λ r. ⌜ r ≤ most ⌝ }
-{
-    let x = block::two_at(fields, at) as usize;
-    if x < most { x } else { most }
-}
-
 // The field of eight bytes from `at` on.
-pub fn eight(fields: &[u8; FIELDS], at: usize) -> usize
+pub fn eight_at(fields: &[u8; FIELDS], at: usize) -> usize
     requires { ⌜ at + 8 ≤ fieldBytes ⌝ }
+    ensures { λ r. ⌜ r ≡ eightAt (now (fields .entry)) at ⌝ }
 {
     let low = block::four_at(fields, at) as usize;
     let high = block::four_at(fields, at + 4) as usize;

@@ -1,7 +1,7 @@
 // What a call is lent, as it is before the call. A list that is read from the input begins as these do too.
 ghost use mathlib.Core.Path.{_≡_};
-ghost use lib.ListN.{length};
-ghost use Rattle.records.specs.Record.{slots, room};
+ghost use lib.ListN.{length, replicate};
+ghost use Rattle.records.specs.Record.{slots, room, oldWord, oldPlace, oldByte};
 
 // The most slots of a list, and the most bytes of an output.
 pub const SLOTS: usize = 600;
@@ -11,6 +11,7 @@ pub const ROOM: usize = 6400;
 // A list of words.
 pub fn words() -> [u32; SLOTS]
     ensures { λ r. ⌜ slots ≡ length r ⌝ }
+    ensures { λ r. ⌜ r ≡ replicate slots oldWord ⌝ }
 {
     [305419896; SLOTS]
 }
@@ -18,6 +19,7 @@ pub fn words() -> [u32; SLOTS]
 // A list of places.
 pub fn places() -> [u16; SLOTS]
     ensures { λ r. ⌜ slots ≡ length r ⌝ }
+    ensures { λ r. ⌜ r ≡ replicate slots oldPlace ⌝ }
 {
     [4660; SLOTS]
 }
@@ -25,6 +27,7 @@ pub fn places() -> [u16; SLOTS]
 // An output.
 pub fn output() -> [u8; ROOM]
     ensures { λ r. ⌜ room ≡ length r ⌝ }
+    ensures { λ r. ⌜ r ≡ replicate room oldByte ⌝ }
 {
     [165; ROOM]
 }

@@ -1,11 +1,12 @@
 // The record that builds from the card, and the line that it prints.
 use builds::BuildAnswer;
 use records::hashes;
-use records::input;
 use records::input::FIELDS;
 use records::lent;
-use records::lent::ROOM;
 use records::output;
+
+// The most bytes of an output.
+const ROOM: usize = 600;
 
 // What build answers: the verdict with its numbers, or the refusal.
 fn built(a: BuildAnswer) {
@@ -24,10 +25,14 @@ fn build(card: &[u8], budget: u32, out: &mut [u8]) {
     output::number(hashes::of_bytes(out))
 }
 
-// Builds from the card, with the budget and into an output of as many bytes as the fields say.
-pub fn of_card(card: &[u8], fields: &[u8; FIELDS]) {
+// Builds from the card, with the budget and into an output of as many bytes as the fields say, and answers whether there can be one.
+pub fn of_card(card: &[u8], fields: &[u8; FIELDS]) -> bool {
     let budget = block::four_at(fields, 0);
-    let room = input::at_most(fields, 4, ROOM);
+    let room = block::two_at(fields, 4) as usize;
+    if ROOM < room {
+        return false;
+    }
     let mut out = lent::output();
-    build(card, budget, &mut out[..room])
+    build(card, budget, &mut out[..room]);
+    true
 }

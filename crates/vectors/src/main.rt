@@ -20,14 +20,15 @@
 //                  build from the card (the budget in four bytes) into an output of `room` bytes, each of which holds 165 before the call
 //                                       `sole LENGTH PLACEMENTS HASH` or `several`, or `none PLACEMENTS HASH` or `unsettled`
 // A call that refuses prints `refused N P`, for L with the three hashes after it, for W, R and D with the output's. PLACES is `one P`,
-// `two P Q` or `span F G`. i, `at`, k, kind and l have eight bytes; a, b, c, m and `room` have two. More than 600 slots count as 600, and more
-// than 6,400 bytes of an output as 6,400. A record that is none of these, or is cut, ends the run with the line `bad record`.
+// `two P Q` or `span F G`. i, `at`, k, kind and l have eight bytes; a, b, c, m and `room` have two, and are at most 600, but `room` of W and
+// R at most 6,400. A record that is none of these, or is cut, ends the run with the line `bad record`.
 mod building;
 mod cards;
 mod reading;
 mod writing;
 
 ghost use Prim.Native.Nat.{_≤_};
+ghost use lib.ListN.{length};
 ghost use Rattle.records.specs.Record.{fieldBytes};
 use cards::Turn;
 use records::input;
@@ -55,20 +56,15 @@ fn bytes_of(tag: u8) -> usize
     }
 }
 
-// Calls the operation of a tag on the card, prints what it answers, and says whether there is such a record, and all of it.
-fn answer(tag: u8, fields: &[u8; FIELDS], card: &[u8]) -> bool {
+// Calls the operation of a tag that lends nothing, with the number x where it takes one, prints what it answers, and says whether there is such
+// a tag.
+fn plain(tag: u8, x: usize, card: &[u8]) -> bool {
     match tag {
         b'A' => reading::admit(card),
-        b'E' => reading::fetch_entry(card, input::eight(fields, 0)),
-        b'H' => reading::step(card, input::eight(fields, 0)),
-        b'B' => reading::fetch(card, input::eight(fields, 0)),
-        b'F' => reading::companion(card, input::eight(fields, 0)),
-        b'L' => reading::admit_into(card, fields),
-        b'R' => writing::again(card, fields),
-        b'D' => building::of_card(card, fields),
-        b'W' => {
-            return writing::of_lists(fields);
-        }
+        b'E' => reading::fetch_entry(card, x),
+        b'H' => reading::step(card, x),
+        b'B' => reading::fetch(card, x),
+        b'F' => reading::companion(card, x),
         _ => {
             return false;
         }
@@ -76,16 +72,27 @@ fn answer(tag: u8, fields: &[u8; FIELDS], card: &[u8]) -> bool {
     true
 }
 
-// Runs a record on the card, which is the first n bytes of its buffer: no record leaves it longer than that, and the test is for the proof.
-fn run(tag: u8, fields: &[u8; FIELDS], card: &mut [u8], n: usize) -> Turn {
+// Calls the operation of a tag on the card, prints what it answers, and says whether there is such a record, and all of it.
+fn answer(tag: u8, fields: &[u8; FIELDS], card: &[u8]) -> bool {
+    match tag {
+        b'L' => reading::admit_into(card, fields),
+        b'W' => writing::of_lists(fields),
+        b'R' => writing::again(card, fields),
+        b'D' => building::of_card(card, fields),
+        _ => plain(tag, input::eight_at(fields, 0), card),
+    }
+}
+
+// Runs a record on the card, which is the first n bytes of its buffer.
+fn run(tag: u8, fields: &[u8; FIELDS], card: &mut [u8], n: usize) -> Turn
+    requires { ⌜ n ≤ length (now card) ⌝ }
+    ensures { λ r. ⌜ r .n ≤ length (now (card .exit)) ⌝ }
+{
     if tag == b'C' {
         return cards::set_card(card, block::four_at(fields, 0) as usize);
     }
     if tag == b'G' {
         return cards::write_card(card, fields);
-    }
-    if card.len() < n {
-        return cards::bad();
     }
     if answer(tag, fields, &card[..n]) {
         output::text(b"\n");
@@ -95,7 +102,10 @@ fn run(tag: u8, fields: &[u8; FIELDS], card: &mut [u8], n: usize) -> Turn {
 }
 
 // Reads the next record, and runs it.
-fn next(card: &mut [u8], n: usize) -> Turn {
+fn next(card: &mut [u8], n: usize) -> Turn
+    requires { ⌜ n ≤ length (now card) ⌝ }
+    ensures { λ r. ⌜ r .n ≤ length (now (card .exit)) ⌝ }
+{
     let mut tag = [0u8; 1];
     if !input::fill(&mut tag) {
         return Turn { n: 0, more: false };

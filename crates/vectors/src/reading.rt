@@ -7,7 +7,6 @@ use card::Stepped;
 use entries::Entry;
 use entries::Places;
 use records::hashes;
-use records::input;
 use records::input::FIELDS;
 use records::lent;
 use records::lent::SLOTS;
@@ -84,13 +83,23 @@ fn list(card: &[u8], words: &mut [u32], ones: &mut [u16], twos: &mut [u16]) {
     output::number(z)
 }
 
-// Admits the card into lists of as many slots as the fields say.
-pub fn admit_into(card: &[u8], fields: &[u8; FIELDS]) {
-    let a = input::at_most(fields, 0, SLOTS);
-    let b = input::at_most(fields, 2, SLOTS);
-    let c = input::at_most(fields, 4, SLOTS);
+// Admits the card into lists of as many slots as the fields say, and answers whether there can be such lists.
+pub fn admit_into(card: &[u8], fields: &[u8; FIELDS]) -> bool {
+    let a = block::two_at(fields, 0) as usize;
+    let b = block::two_at(fields, 2) as usize;
+    let c = block::two_at(fields, 4) as usize;
+    if SLOTS < a {
+        return false;
+    }
+    if SLOTS < b {
+        return false;
+    }
+    if SLOTS < c {
+        return false;
+    }
     let mut words = lent::words();
     let mut ones = lent::places();
     let mut twos = lent::places();
-    list(card, &mut words[..a], &mut ones[..b], &mut twos[..c])
+    list(card, &mut words[..a], &mut ones[..b], &mut twos[..c]);
+    true
 }

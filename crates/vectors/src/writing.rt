@@ -2,6 +2,7 @@
 ghost use Prim.Native.Nat.{_≤_};
 ghost use lib.ListN.{length};
 ghost use Rattle.records.specs.Record.{slots};
+ghost use Rattle.vectors.specs.Within.{Within};
 use card::Admitted;
 use entries::Format;
 use records::hashes;
@@ -28,32 +29,29 @@ fn tell(w: Written, out: &[u8]) {
     output::number(hashes::of_bytes(out))
 }
 
-// Whether all three hold.
-fn all(x: bool, y: bool, z: bool) -> bool {
-    if x {
-        if y {
-            return z;
-        }
-    }
-    false
-}
-
 // Reads lists of a, b and c slots, and writes a card of them, with the kind and l that the fields say.
 pub fn write_lists(fields: &[u8; FIELDS], a: usize, b: usize, c: usize, out: &mut [u8]) -> Wrote
     requires { ⌜ (a ≤ slots) × (b ≤ slots) × (c ≤ slots) ⌝ }
+    ensures { λ r. ⌜ Within (length (now (out .entry))) r ⌝ }
 {
     let w = input::words(a);
+    if !w.whole {
+        return Wrote::Cut;
+    }
     let o = input::places(b);
+    if !o.whole {
+        return Wrote::Cut;
+    }
     let t = input::places(c);
-    if !all(w.whole, o.whole, t.whole) {
+    if !t.whole {
         return Wrote::Cut;
     }
     let words = w.list;
     let ones = o.list;
     let twos = t.list;
     Wrote::Is(writer::write(
-        input::eight(fields, 0),
-        input::eight(fields, 8),
+        input::eight_at(fields, 0),
+        input::eight_at(fields, 8),
         &words[..a],
         &ones[..b],
         &twos[..c],
@@ -72,12 +70,24 @@ fn write_told(fields: &[u8; FIELDS], a: usize, b: usize, c: usize, out: &mut [u8
     true
 }
 
-// The same with lists of as many slots, and an output of as many bytes, as the fields say.
+// The same with lists of as many slots, and an output of as many bytes, as the fields say, where there can be such.
 pub fn of_lists(fields: &[u8; FIELDS]) -> bool {
-    let a = input::at_most(fields, 16, SLOTS);
-    let b = input::at_most(fields, 18, SLOTS);
-    let c = input::at_most(fields, 20, SLOTS);
-    let room = input::at_most(fields, 22, ROOM);
+    let a = block::two_at(fields, 16) as usize;
+    let b = block::two_at(fields, 18) as usize;
+    let c = block::two_at(fields, 20) as usize;
+    let room = block::two_at(fields, 22) as usize;
+    if SLOTS < a {
+        return false;
+    }
+    if SLOTS < b {
+        return false;
+    }
+    if SLOTS < c {
+        return false;
+    }
+    if ROOM < room {
+        return false;
+    }
     let mut out = lent::output();
     write_told(fields, a, b, c, &mut out[..room])
 }
@@ -91,9 +101,13 @@ fn write_first(f: Format, words: &[u32], ones: &[u16], twos: &[u16], out: &mut [
     tell(w, out)
 }
 
-// Admits the card into lists, and writes it again of what they hold then, into an output of as many bytes as the fields say.
-pub fn again(card: &[u8], fields: &[u8; FIELDS]) {
-    let room = input::at_most(fields, 0, ROOM);
+// Admits the card into lists, and writes it again of what they hold then, into an output of as many bytes as the fields say; answers whether
+// there can be such an output.
+pub fn again(card: &[u8], fields: &[u8; FIELDS]) -> bool {
+    let room = block::two_at(fields, 0) as usize;
+    if ROOM < room {
+        return false;
+    }
     let mut words = lent::words();
     let mut ones = lent::places();
     let mut twos = lent::places();
@@ -102,4 +116,5 @@ pub fn again(card: &[u8], fields: &[u8; FIELDS]) {
         Admitted::Card(f) => write_first(f, &words, &ones, &twos, &mut out[..room]),
         Admitted::Refused(r) => tell(Written::Refused(r), &out[..room]),
     }
+    true
 }

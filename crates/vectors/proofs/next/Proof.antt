@@ -1,4 +1,4 @@
--- `vectors::next` is safe: the record's fields are a part of their array. Assumes nothing.
+-- `vectors::next` meets its contract: the record's fields are a part of their array. Assumes nothing.
 use native.Mathlib.Omega.{arith}
 use lib.ListN.{length-take}
 use borrow.Author.Needs.{needs}

@@ -1,4 +1,4 @@
--- `vectors::run` is safe: the card is a part of its buffer. Assumes nothing.
+-- `vectors::run` meets its contract: the card is a part of its buffer. Assumes nothing.
 use native.Mathlib.Omega.{arith}
 use lib.ListN.{length-take}
 use borrow.Author.Needs.{needs}
@@ -29,12 +29,6 @@ same-length-2 c = search needs
 returns-2 : tie.Need-returns-2
 returns-2 c = search needs
 
-bad-requires : tie.Need-bad-requires
-bad-requires c κs = search needs
-
-returns-3 : tie.Need-returns-3
-returns-3 c = search needs
-
 slice-reshare-prefix-answer : tie.Need-slice-reshare-prefix-answer
 slice-reshare-prefix-answer c = search needs
 
@@ -53,17 +47,17 @@ text-requires c κs = search needs
 same-length-3 : tie.Need-same-length-3
 same-length-3 c = search needs
 
-returns-4 : tie.Need-returns-4
-returns-4 c = search needs
+returns-3 : tie.Need-returns-3
+returns-3 c = search needs
 
-bad-requires-2 : tie.Need-bad-requires-2
-bad-requires-2 c κs = search needs
+bad-requires : tie.Need-bad-requires
+bad-requires c κs = search needs
 
 same-length-4 : tie.Need-same-length-4
 same-length-4 c = search needs
 
-returns-5 : tie.Need-returns-5
-returns-5 c = search needs
+returns-4 : tie.Need-returns-4
+returns-4 c = search needs
 
 pub run-spec : {M : Type 1} → statement M
 run-spec =
@@ -77,15 +71,13 @@ run-spec =
     write-card-requires
     same-length-2
     returns-2
-    bad-requires
-    returns-3
     slice-reshare-prefix-answer
     slice-aggregate-answer
     answer-requires
     slice-aggregate-text
     text-requires
     same-length-3
-    returns-4
-    bad-requires-2
+    returns-3
+    bad-requires
     same-length-4
-    returns-5)
+    returns-4)

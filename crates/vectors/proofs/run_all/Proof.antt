@@ -1,12 +1,14 @@
--- `vectors::run_all` is safe and ends. What falls is the number of turns that are left. Assumes nothing.
+-- `vectors::run_all` is safe and ends. The invariant: the card is the first n bytes of its buffer. What falls is the number of turns that
+-- are left. Assumes nothing.
 use borrow.Author.Needs.{needs}
+use Prim.Native.Nat.{_≤_}
 use mathlib.Core.Path.{_≡_}
 use lib.ListN.{length}
 use Rattle.vectors.proofs.run_all.Statement.{statement}
 use Rattle.vectors.proofs.run_all.Tie as tie
 
 abbrev Inv-loop : tie.InvT-loop
-Inv-loop card₀ n₀ turns₀ card n turns = length card ≡ length card₀
+Inv-loop card₀ n₀ turns₀ card n turns = (n ≤ length card) × (length card ≡ length card₀)
 
 abbrev μ-loop : tie.MeasureT-loop
 μ-loop card₀ n₀ turns₀ card n turns = turns

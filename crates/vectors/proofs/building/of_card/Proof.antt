@@ -8,8 +8,14 @@ use Rattle.vectors.proofs.building.of_card.Tie as tie
 four-at-requires : tie.Need-four-at-requires
 four-at-requires c κs = search needs
 
-at-most-requires : tie.Need-at-most-requires
-at-most-requires c κs = search needs
+two-at-requires : tie.Need-two-at-requires
+two-at-requires c κs = search needs
+
+cast-room : tie.Need-cast-room
+cast-room c = search needs
+
+returns : tie.Need-returns
+returns c = search needs
 
 output-requires : tie.Need-output-requires
 output-requires c κs = search needs
@@ -23,17 +29,19 @@ slice-aggregate-build c = simp length-take (omega arith)
 build-requires : tie.Need-build-requires
 build-requires c κs = search needs
 
-returns : tie.Need-returns
-returns c = search needs
+returns-2 : tie.Need-returns-2
+returns-2 c = search needs
 
 pub of-card-spec : {M : Type 1} → statement M
 of-card-spec =
     tie.close
     (tie.spec
     four-at-requires
-    at-most-requires
+    two-at-requires
+    cast-room
+    returns
     output-requires
     array-borrow-prefix-out
     slice-aggregate-build
     build-requires
-    returns)
+    returns-2)

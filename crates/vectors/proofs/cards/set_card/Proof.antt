@@ -1,4 +1,4 @@
--- `vectors::cards::set_card` is safe: the bytes are a part of the card's buffer. Assumes nothing.
+-- `vectors::cards::set_card` meets its contract: the bytes are a part of the card's buffer. Assumes nothing.
 use native.Mathlib.Omega.{arith}
 use lib.ListN.{length-take}
 use borrow.Author.Needs.{needs}

@@ -5,14 +5,32 @@ use borrow.Author.Needs.{needs}
 use Rattle.vectors.proofs.reading.admit_into.Statement.{statement}
 use Rattle.vectors.proofs.reading.admit_into.Tie as tie
 
-at-most-requires : tie.Need-at-most-requires
-at-most-requires c κs = search needs
+two-at-requires : tie.Need-two-at-requires
+two-at-requires c κs = search needs
 
-at-most-requires-2 : tie.Need-at-most-requires-2
-at-most-requires-2 c κs = search needs
+cast-a : tie.Need-cast-a
+cast-a c = search needs
 
-at-most-requires-3 : tie.Need-at-most-requires-3
-at-most-requires-3 c κs = search needs
+two-at-requires-2 : tie.Need-two-at-requires-2
+two-at-requires-2 c κs = search needs
+
+cast-b : tie.Need-cast-b
+cast-b c = search needs
+
+two-at-requires-3 : tie.Need-two-at-requires-3
+two-at-requires-3 c κs = search needs
+
+cast-c : tie.Need-cast-c
+cast-c c = search needs
+
+returns : tie.Need-returns
+returns c = search needs
+
+returns-2 : tie.Need-returns-2
+returns-2 c = search needs
+
+returns-3 : tie.Need-returns-3
+returns-3 c = search needs
 
 words-requires : tie.Need-words-requires
 words-requires c κs = search needs
@@ -44,16 +62,22 @@ slice-aggregate-list-3 c = simp length-take (omega arith)
 list-requires : tie.Need-list-requires
 list-requires c κs = search needs
 
-returns : tie.Need-returns
-returns c = search needs
+returns-4 : tie.Need-returns-4
+returns-4 c = search needs
 
 pub admit-into-spec : {M : Type 1} → statement M
 admit-into-spec =
     tie.close
     (tie.spec
-    at-most-requires
-    at-most-requires-2
-    at-most-requires-3
+    two-at-requires
+    cast-a
+    two-at-requires-2
+    cast-b
+    two-at-requires-3
+    cast-c
+    returns
+    returns-2
+    returns-3
     words-requires
     places-requires
     places-requires-2
@@ -64,4 +88,4 @@ admit-into-spec =
     array-borrow-prefix-twos
     slice-aggregate-list-3
     list-requires
-    returns)
+    returns-4)

@@ -1,5 +1,5 @@
--- `vectors::writing::again` is safe: the output is a part of its array, and a card that was listed found room in the lists (`listed-fits`).
--- Assumes nothing.
+-- `vectors::writing::again` is safe: the output is a part of its array, and a card that was listed found room in the lists
+-- (`listed-fits`). Assumes nothing.
 use mathlib.Core.Path.{ap}
 use Rattle.card.specs.Fetching.{saysAdmitted}
 use Rattle.card.proofs.ListingLaws.{listed-fits}
@@ -9,8 +9,14 @@ use borrow.Author.Needs.{needs}
 use Rattle.vectors.proofs.writing.again.Statement.{statement}
 use Rattle.vectors.proofs.writing.again.Tie as tie
 
-at-most-requires : tie.Need-at-most-requires
-at-most-requires c κs = search needs
+two-at-requires : tie.Need-two-at-requires
+two-at-requires c κs = search needs
+
+cast-room : tie.Need-cast-room
+cast-room c = search needs
+
+returns : tie.Need-returns
+returns c = search needs
 
 words-requires : tie.Need-words-requires
 words-requires c κs = search needs
@@ -73,17 +79,19 @@ slice-aggregate-tell c = simp length-take (omega arith)
 tell-requires : tie.Need-tell-requires
 tell-requires c κs = search needs
 
-returns : tie.Need-returns
-returns c = search needs
-
 returns-2 : tie.Need-returns-2
 returns-2 c = search needs
+
+returns-3 : tie.Need-returns-3
+returns-3 c = search needs
 
 pub again-spec : {M : Type 1} → statement M
 again-spec =
     tie.close
     (tie.spec
-    at-most-requires
+    two-at-requires
+    cast-room
+    returns
     words-requires
     places-requires
     places-requires-2
@@ -103,5 +111,5 @@ again-spec =
     array-share-prefix-out
     slice-aggregate-tell
     tell-requires
-    returns
-    returns-2)
+    returns-2
+    returns-3)

@@ -5,17 +5,41 @@ use borrow.Author.Needs.{needs}
 use Rattle.vectors.proofs.writing.of_lists.Statement.{statement}
 use Rattle.vectors.proofs.writing.of_lists.Tie as tie
 
-at-most-requires : tie.Need-at-most-requires
-at-most-requires c κs = search needs
+two-at-requires : tie.Need-two-at-requires
+two-at-requires c κs = search needs
 
-at-most-requires-2 : tie.Need-at-most-requires-2
-at-most-requires-2 c κs = search needs
+cast-a : tie.Need-cast-a
+cast-a c = search needs
 
-at-most-requires-3 : tie.Need-at-most-requires-3
-at-most-requires-3 c κs = search needs
+two-at-requires-2 : tie.Need-two-at-requires-2
+two-at-requires-2 c κs = search needs
 
-at-most-requires-4 : tie.Need-at-most-requires-4
-at-most-requires-4 c κs = search needs
+cast-b : tie.Need-cast-b
+cast-b c = search needs
+
+two-at-requires-3 : tie.Need-two-at-requires-3
+two-at-requires-3 c κs = search needs
+
+cast-c : tie.Need-cast-c
+cast-c c = search needs
+
+two-at-requires-4 : tie.Need-two-at-requires-4
+two-at-requires-4 c κs = search needs
+
+cast-room : tie.Need-cast-room
+cast-room c = search needs
+
+returns : tie.Need-returns
+returns c = search needs
+
+returns-2 : tie.Need-returns-2
+returns-2 c = search needs
+
+returns-3 : tie.Need-returns-3
+returns-3 c = search needs
+
+returns-4 : tie.Need-returns-4
+returns-4 c = search needs
 
 output-requires : tie.Need-output-requires
 output-requires c κs = search needs
@@ -29,19 +53,27 @@ slice-aggregate-write-told c = simp length-take (omega arith)
 write-told-requires : tie.Need-write-told-requires
 write-told-requires c κs = search needs
 
-returns : tie.Need-returns
-returns c = search needs
+returns-5 : tie.Need-returns-5
+returns-5 c = search needs
 
 pub of-lists-spec : {M : Type 1} → statement M
 of-lists-spec =
     tie.close
     (tie.spec
-    at-most-requires
-    at-most-requires-2
-    at-most-requires-3
-    at-most-requires-4
+    two-at-requires
+    cast-a
+    two-at-requires-2
+    cast-b
+    two-at-requires-3
+    cast-c
+    two-at-requires-4
+    cast-room
+    returns
+    returns-2
+    returns-3
+    returns-4
     output-requires
     array-borrow-prefix-out
     slice-aggregate-write-told
     write-told-requires
-    returns)
+    returns-5)

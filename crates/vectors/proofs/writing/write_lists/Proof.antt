@@ -1,4 +1,6 @@
--- `vectors::writing::write_lists` is safe: each list is a part of its array. Assumes nothing.
+-- `vectors::writing::write_lists` meets its contract: each list is a part of its array, and a card that was written had room
+-- (`wrote-within`). Assumes nothing.
+use Rattle.vectors.proofs.WithinLaws.{wrote-within}
 use native.Mathlib.Omega.{arith}
 use lib.ListN.{length-take}
 use borrow.Author.Needs.{needs}
@@ -8,23 +10,26 @@ use Rattle.vectors.proofs.writing.write_lists.Tie as tie
 words-requires : tie.Need-words-requires
 words-requires c κs = search needs
 
+returns : tie.Need-returns
+returns c = search needs
+
 places-requires : tie.Need-places-requires
 places-requires c κs = search needs
+
+returns-2 : tie.Need-returns-2
+returns-2 c = search needs
 
 places-requires-2 : tie.Need-places-requires-2
 places-requires-2 c κs = search needs
 
-all-requires : tie.Need-all-requires
-all-requires c κs = search needs
+returns-3 : tie.Need-returns-3
+returns-3 c = search needs
 
-returns : tie.Need-returns
-returns c = search needs
+eight-at-requires : tie.Need-eight-at-requires
+eight-at-requires c κs = search needs
 
-eight-requires : tie.Need-eight-requires
-eight-requires c κs = search needs
-
-eight-requires-2 : tie.Need-eight-requires-2
-eight-requires-2 c κs = search needs
+eight-at-requires-2 : tie.Need-eight-at-requires-2
+eight-at-requires-2 c κs = search needs
 
 array-share-prefix-words : tie.Need-array-share-prefix-words
 array-share-prefix-words c = search needs
@@ -50,20 +55,21 @@ write-requires c κs = search needs
 same-length : tie.Need-same-length
 same-length c = search needs
 
-returns-2 : tie.Need-returns-2
-returns-2 c = search needs
+returns-4 : tie.Need-returns-4
+returns-4 c = wrote-within _ (c .before .before .write .ensures)
 
 pub write-lists-spec : {M : Type 1} → statement M
 write-lists-spec =
     tie.close
     (tie.spec
     words-requires
-    places-requires
-    places-requires-2
-    all-requires
     returns
-    eight-requires
-    eight-requires-2
+    places-requires
+    returns-2
+    places-requires-2
+    returns-3
+    eight-at-requires
+    eight-at-requires-2
     array-share-prefix-words
     slice-aggregate-write
     array-share-prefix-ones
@@ -72,4 +78,4 @@ write-lists-spec =
     slice-aggregate-write-3
     write-requires
     same-length
-    returns-2)
+    returns-4)

@@ -1,0 +1,2 @@
+-- `WithinLaws` has what the functions that set the card cite.
+pub mod WithinLaws

@@ -1,0 +1,2 @@
+-- `Within` says that a card that was written stands within its output.
+pub mod Within
