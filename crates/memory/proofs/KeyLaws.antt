@@ -1,0 +1,95 @@
+-- Laws of keys: the marks of few entries are a small number, and equal keys are of equal places, marks and last letters. Assumes nothing.
+use mathlib.Core.Path.{_≡_, refl, sym, _∙_}
+use mathlib.Core.Logic.{⊎-elim}
+use mathlib.Core.Bool.{Bool, true, false, cond}
+use mathlib.Core.List.{List, [], _∷_, foldl}
+use Prim.Native.Nat.{ℕ, suc, _+_, _*_, _^_, _≤_, _<_}
+use native.Mathlib.Omega.{arith}
+use native.Mathlib.Nat.{pow-suc}
+use native.Mathlib.Numerals.{add-one}
+use lib.Pow.{pow-mono}
+use lib.Dec.{eqb}
+use lib.ListN.{length, getD, drop}
+use Rattle.block.proofs.Fold.{fold-turn, fold-end}
+use Rattle.sequence.specs.Lists.{In}
+use Rattle.sequence.proofs.ListLaws.{not-in-nil, in-cons}
+use Rattle.memory.specs.Memory.{fewMarks, markValues, tailValues, markOf, withMark, bitsOf, Bits, KeyOf}
+
+-- ---- the marks as digits
+
+mark-small : (marks : List ℕ) (j : ℕ) → markOf marks j ≤ 1
+mark-small marks j = go (eqb (getD marks j 0) 0)
+  where
+    go : (b : Bool) → cond b 0 1 ≤ 1
+    go true = omega arith
+    go false = omega arith
+
+pub bit-small : (marks : List ℕ) (j : ℕ) {r : ℕ} → r ≡ markOf marks j → r ≤ 1
+bit-small marks j e = omega (arith, mark-small marks j)
+
+-- so few marks are not many values
+few-bits : (n bits : ℕ) → n ≤ fewMarks → bits < 2 ^ n → bits < markValues
+few-bits n bits h b = let g : 2 ^ n ≤ 2 ^ fewMarks = pow-mono {i = n} {j = fewMarks} h in omega (arith, g)
+
+-- the loop: the marks of the first k entries are told
+pub record Telling (marks js : List ℕ) (k bits : ℕ) : Type 0 where
+  pub in-list : k ≤ length js
+  pub few : bits < 2 ^ k
+  pub rest : foldl (withMark marks) bits (drop k js) ≡ bitsOf marks js
+
+module _ (marks js : List ℕ) where
+  pub telling-none : Telling marks js 0 0
+  unfolding bitsOf
+  telling-none = record { in-list = omega arith; few = omega arith; rest = refl }
+
+  module _ {k bits : ℕ} (s : Telling marks js k bits) (short : length js ≤ fewMarks) where
+    pub telling-few : bits < markValues
+    telling-few = few-bits k bits (omega (arith, s .in-list)) (s .few)
+
+    pub telling-turn : {bit : ℕ} → k < length js → bit ≡ markOf marks (getD js k 0) → Telling marks js (k + 1) (2 * bits + bit)
+    telling-turn {bit} h is = rw is record {
+      in-list = omega arith;
+      few = rw (add-one k) (omega (arith, s .few, pow-suc 2 k, mark-small marks (getD js k 0)));
+      rest = fold-turn (withMark marks) bits js k h ∙ s .rest;
+    }
+
+    pub telling-all : length js ≤ k → Bits marks js bits
+    telling-all h = record { all = sym (fold-end (withMark marks) bits js k h) ∙ s .rest; few = telling-few }
+
+-- ---- equal digits are equal marks
+
+split-bit : (a a′ : Bool) (b b′ : ℕ) → 2 * b + cond a 0 1 ≡ 2 * b′ + cond a′ 0 1 → (b ≡ b′) × (a ≡ a′)
+split-bit true true b b′ e = (omega arith, refl)
+split-bit true false b b′ e = absurd (omega arith)
+split-bit false true b b′ e = absurd (omega arith)
+split-bit false false b b′ e = (omega arith, refl)
+
+digits-same : (marks marks′ js : List ℕ) (b b′ : ℕ) → foldl (withMark marks) b js ≡ foldl (withMark marks′) b′ js
+    → (b ≡ b′) × ((j : ℕ) → In j js → eqb (getD marks j 0) 0 ≡ eqb (getD marks′ j 0) 0)
+digits-same marks marks′ [] b b′ e = (e, λ j h. absurd (not-in-nil h))
+digits-same marks marks′ (j ∷ js) b b′ e =
+    let u = digits-same marks marks′ js (withMark marks b j) (withMark marks′ b′ j) e in
+    let s = split-bit (eqb (getD marks j 0) 0) (eqb (getD marks′ j 0) 0) b b′ (u .0) in
+    (s .0, λ k h. ⊎-elim (λ q. rw q (s .1)) (λ m. u .1 k m) (in-cons h))
+
+pub bits-same : (marks marks′ js : List ℕ) → bitsOf marks js ≡ bitsOf marks′ js
+    → (j : ℕ) → In j js → eqb (getD marks j 0) 0 ≡ eqb (getD marks′ j 0) 0
+unfolding bitsOf
+bits-same marks marks′ js e = digits-same marks marks′ js 0 0 e .1
+
+-- ---- equal keys
+
+split-tail : (x w x′ w′ : ℕ) → w < tailValues → w′ < tailValues → x * tailValues + w + 1 ≡ x′ * tailValues + w′ + 1 → (x ≡ x′) × (w ≡ w′)
+split-tail x w x′ w′ h h′ e = let same : x ≡ x′ = omega arith in (same, omega arith)
+
+split-marks : (x b x′ b′ : ℕ) → b < markValues → b′ < markValues → x * markValues + b ≡ x′ * markValues + b′ → (x ≡ x′) × (b ≡ b′)
+split-marks x b x′ b′ h h′ e = let same : x ≡ x′ = omega arith in (same, omega arith)
+
+-- what a key tells: the place, the marks in the list of the place, and the last letters
+pub key-tells : {marks js marks′ js′ : List ℕ} {i want i′ want′ key : ℕ} → KeyOf marks js i want key → KeyOf marks′ js′ i′ want′ key
+    → (i ≡ i′) × (bitsOf marks js ≡ bitsOf marks′ js′) × (want ≡ want′)
+key-tells {marks} {js} {marks′} {js′} {i} {want} {i′} {want′} k k′ =
+    let tail = split-tail (i * markValues + bitsOf marks js) want (i′ * markValues + bitsOf marks′ js′) want′ (k .low) (k′ .low)
+    (sym (k .made) ∙ k′ .made) in
+    let head = split-marks i (bitsOf marks js) i′ (bitsOf marks′ js′) (k .few) (k′ .few) (tail .0) in
+    (head .0, head .1, tail .1)

@@ -1,0 +1,71 @@
+-- Laws of slots: what one tells, and what is stored in one. Assumes nothing.
+use mathlib.Core.Path.{_≡_, refl, ap, _∙_}
+use mathlib.Core.Logic.{inl, inr, ⊎-elim}
+use mathlib.Core.List.{List}
+use Prim.Native.Nat.{ℕ, zero, suc, _+_, _*_, _-_, _≤_, _<_}
+use native.Mathlib.Omega.{arith}
+use lib.ListN.{length, getD, set, replicate, length-set}
+use lib.Seq.{getD-set-same, getD-set-other}
+use Rattle.sequence.proofs.FillingLaws.{same-or-not}
+use Rattle.memory.specs.Memory.{slots, numbers, Told, Stored, Nothing}
+
+-- ---- zeros say nothing
+
+zero-at : (n k : ℕ) → _≡_ {A = ℕ} (getD (replicate n 0) k 0) 0
+zero-at zero k = refl
+zero-at (suc n) zero = refl
+zero-at (suc n) (suc k) = zero-at n k
+
+pub nothing-known : {known : List ℕ} → known ≡ replicate numbers 0 → Nothing known
+nothing-known e = record { each = λ k. rw e (zero-at numbers k) }
+
+-- ---- a slot that is told
+
+pub told-at : {known : List ℕ} (r at : ℕ) {key size : ℕ} → at ≡ 2 * r → r < slots → (key ≡ 0 → ⊥) → getD known at 0 ≡ key
+    → getD known (at + 1) 0 ≡ size
+    → Told known key size
+told-at r at is h some key-is size-is = record {
+  some = omega arith;
+  slot = r;
+  inside = h;
+  key-is = rw is at key-is;
+  size-is = rw is at size-is;
+}
+
+-- ---- a slot that is stored
+
+module _ (known : List ℕ) (key placed state placed′ state′ : ℕ) where
+  pub stored-none : Stored known known key placed state placed′ state′
+  stored-none = record { all = refl; each = λ s h. inl (refl, refl) }
+
+  pub stored-new : (r : ℕ) → r < slots → length known ≡ numbers → state′ ≡ state → (key ≡ 0 → ⊥) → placed ≤ placed′
+      → Stored known (set (set known (2 * r) key) (2 * r + 1) (placed′ - placed)) key placed state placed′ state′
+  stored-new r h all same some grows = record {
+    all = length-set with-key (2 * r + 1) size ∙ length-set known (2 * r) key;
+    each = λ s g. ⊎-elim (λ e. inr (same, omega arith, rw e key-there, rw e size-there)) (λ n. inl (key-other s n, size-other s n))
+        (same-or-not s r);
+  }
+    where
+      size : ℕ
+      size = placed′ - placed
+
+      with-key : List ℕ
+      with-key = set known (2 * r) key
+
+      key-there : getD (set with-key (2 * r + 1) size) (2 * r) 0 ≡ key
+      key-there =
+          getD-set-other with-key (2 * r + 1) (2 * r) size 0 (λ e. omega arith) ∙ getD-set-same known (2 * r) key 0 (omega arith)
+
+      size-there : placed + getD (set with-key (2 * r + 1) size) (2 * r + 1) 0 ≡ placed′
+      size-there =
+          ap (λ x. placed + x) (getD-set-same with-key (2 * r + 1) size 0 (omega (arith, length-set known (2 * r) key))) ∙ omega arith
+
+      key-other : (s : ℕ) → (s ≡ r → ⊥) → getD (set with-key (2 * r + 1) size) (2 * s) 0 ≡ getD known (2 * s) 0
+      key-other s n =
+          getD-set-other with-key (2 * r + 1) (2 * s) size 0 (λ e. omega arith)
+          ∙ getD-set-other known (2 * r) (2 * s) key 0 (λ e. n (omega arith))
+
+      size-other : (s : ℕ) → (s ≡ r → ⊥) → getD (set with-key (2 * r + 1) size) (2 * s + 1) 0 ≡ getD known (2 * s + 1) 0
+      size-other s n =
+          getD-set-other with-key (2 * r + 1) (2 * s + 1) size 0 (λ e. n (omega arith))
+          ∙ getD-set-other known (2 * r) (2 * s + 1) key 0 (λ e. omega arith)

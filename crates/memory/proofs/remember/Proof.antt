@@ -1,0 +1,69 @@
+-- `remember` meets its contract: nothing is stored, or one slot. Assumes nothing.
+use borrow.Author.Needs.{needs}
+use Rattle.memory.proofs.SlotLaws.{stored-none, stored-new}
+use Rattle.memory.proofs.remember.Statement.{statement}
+use Rattle.memory.proofs.remember.Tie as tie
+
+-- ---- places, from the last to the start
+
+abbrev ended : tie.After-slot-for → tie.Else2
+ended c = c .before .before .before .before
+
+abbrev keyed : tie.Else2 → tie.Else1
+keyed c = c .before .before .before
+
+returns : tie.Need-returns
+returns c = stored-none _ _ _ _ _ _
+
+returns-2 : tie.Need-returns-2
+returns-2 c = stored-none _ _ _ _ _ _
+
+sub-size : tie.Need-sub-size
+sub-size c = search needs
+
+cast-size : tie.Need-cast-size
+cast-size c = search needs
+
+slot-for-requires : tie.Need-slot-for-requires
+slot-for-requires c κs = search needs
+
+mul-at : tie.Need-mul-at
+mul-at c = search needs
+
+mul-known : tie.Need-mul-known
+mul-known c = search needs
+
+element-write-known : tie.Need-element-write-known
+element-write-known c = search needs
+
+add-known : tie.Need-add-known
+add-known c = search needs
+
+mul-known-2 : tie.Need-mul-known-2
+mul-known-2 c = search needs
+
+element-write-known-2 : tie.Need-element-write-known-2
+element-write-known-2 c = search needs
+
+returns-3 : tie.Need-returns-3
+returns-3 c =
+    let at = ended c in
+    let asked = keyed at .before .pre in
+    stored-new _ _ _ _ _ _ (c .slot-for .result) (c .slot-for .ensures) (asked .1) (at .if2 .left) (keyed at .if1 .left) (asked .0)
+
+pub remember-spec : {M : Type 1} → statement M
+remember-spec =
+    tie.close
+    (tie.spec
+    returns
+    returns-2
+    sub-size
+    cast-size
+    slot-for-requires
+    mul-at
+    mul-known
+    element-write-known
+    add-known
+    mul-known-2
+    element-write-known-2
+    returns-3)
