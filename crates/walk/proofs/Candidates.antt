@@ -229,14 +229,15 @@ module _ {i : ℕ} {words ones twos starts slots marks : List ℕ} (place : Plac
           (in-cons (rw e at g)))
       go (d ∷ f ∷ more) e h = absurd (not-in-nil h)
 
+  -- and it is in the list
+  pub opened-in : (j : ℕ) → In j (opened dues table) → In j table
+  opened-in j h = go dues (λ k m. in-keep (isDue twos marks i) table m .0) h
+    where
+      go : (ds : List ℕ) → ((k : ℕ) → In k ds → In k table) → In j (opened ds table) → In j table
+      go [] f m = m
+      go (d ∷ []) f m = f j m
+      go (d ∷ e ∷ more) f m = absurd (not-in-nil m)
+
   -- and it is an entry of the card
   pub opened-below : (j : ℕ) → In j (opened dues table) → j < length words
-  opened-below j h = go dues (λ k m. in-keep (isDue twos marks i) table m .0) h
-    where
-      listed : (k : ℕ) → In k table → k < length words
-      listed k m = place .prepared .here i k (place .inside) m .0
-
-      go : (ds : List ℕ) → ((k : ℕ) → In k ds → In k table) → In j (opened ds table) → j < length words
-      go [] f m = listed j m
-      go (d ∷ []) f m = listed j (f j m)
-      go (d ∷ e ∷ more) f m = absurd (not-in-nil m)
+  opened-below j h = place .prepared .here i j (place .inside) (opened-in j h) .0

@@ -1,5 +1,6 @@
 -- What holds at the head of the walk's loop, and its laws: a start, a turn, and each way out. Assumes nothing.
 use mathlib.Core.Path.{_≡_, refl, sym, ap, _∙_}
+use mathlib.Core.Logic.{⊎-elim}
 use mathlib.Core.Bool.{Bool, true, false, cond, true≢false}
 use mathlib.Core.List.{List, [], _∷_, _++_, map, foldl}
 use mathlib.Core.Option.{Option, some}
@@ -15,13 +16,15 @@ use Rattle.spans.specs.Walk.{walk}
 use Rattle.spans.specs.Run.{Run, spent, reach, run}
 use Rattle.tables.specs.Prepared.{part, listAt}
 use Rattle.sequence.specs.Lists.{In, keep}
-use Rattle.walk.specs.Steps.{isLeft, left, able, isDue, opened, tries, ahead, noWord, Listed, Opened, Next, Placed}
-use Rattle.walk.specs.Going.{Shows, none-yet, one-build, two-builds, stopped, spentState, Ready, later-on, Sought, Went}
+use Rattle.memory.specs.Tally.{spentState, Placed}
+use Rattle.walk.specs.Steps.{isLeft, left, able, isDue, opened, tries, ahead, noWord, Listed, Opened, Next}
+use Rattle.walk.specs.Going.{Shows, none-yet, one-build, two-builds, stopped, Ready, later-on, Sought, Went}
 use Rattle.walk.proofs.StepLaws.{in-part, list-is, opened-list, ahead-at}
-use Rattle.walk.proofs.Candidates.{Place, Alone, opened-alone, opened-below}
+use Rattle.walk.proofs.Candidates.{Place, Alone, opened-alone, opened-below, opened-in}
 use Rattle.walk.proofs.RunLaws.{shows-prefix, shows-spent, shows-reach}
 use Rattle.walk.proofs.Turns.{turn, turn-spent, turns-two, turns-spent, place-turns}
 use Rattle.sequence.proofs.LetterLaws.{mask-tail}
+use Rattle.sequence.proofs.FillingLaws.{same-or-not}
 use Rattle.walk.proofs.SpanLaws.{spans-rise, words-below}
 
 -- the run at the place, to a reader of the definition
@@ -42,22 +45,24 @@ pub record Held (words twos starts slots marks₀ first₀ marks first : List �
   pub unmarked : marks ≡ marks₀
   pub firsts : length first ≡ length first₀
   pub within : placed ≤ budget
+  pub grows : placed₀ ≤ placed
   pub along : (l : ℕ) (ones : List ℕ) (p : Option ℕ) (path : List ℕ) (r : Run) → Sought l words ones twos starts slots mask i want p path
       → Shows path placed₀ state₀ first₀ r
       → Along l words ones twos marks₀ first i budget placed state p path r rest
 
 -- the slots from k up to hi, each of which may be tried
-pub record Open (words twos slots marks : List ℕ) (i k hi : ℕ) : Type 0 where
+pub record Open (words twos starts slots marks : List ℕ) (i k hi : ℕ) : Type 0 where
   pub listed : Listed slots k hi (length words)
   pub free : k < hi → isLeft marks (getD slots k 0) ≡ true
   pub alone : (x : ℕ) → k ≤ x → x < hi → Alone i words twos marks (getD slots x 0)
+  pub here : (x : ℕ) → k ≤ x → x < hi → In (getD slots x 0) (listAt starts slots i)
 
 -- what holds at the head of the loop, at slot k
 pub record Looping (words twos starts slots marks₀ first₀ marks first : List ℕ)
     (i want mask budget hi k placed₀ state₀ placed state : ℕ) : Type 0 where
   pub held : Held words twos starts slots marks₀ first₀ marks first i want mask budget placed₀ state₀ placed state
       (ahead (able words marks₀ i want) words slots k hi)
-  pub open-slots : Open words twos slots marks₀ i k hi
+  pub open-slots : Open words twos starts slots marks₀ i k hi
   pub going : state < 2
   pub inside : i < length words
 
@@ -73,6 +78,7 @@ module _ {words twos starts slots marks₀ first₀ marks first : List ℕ} {i w
     unmarked = h .unmarked;
     firsts = h .firsts;
     within = h .within;
+    grows = h .grows;
     runs = λ l ones p path r s w. let a = h .along l ones p path r s w in
         rw (a .goes-on ∙ ap (foldl (turn l words ones twos marks₀ i budget path) (a .so-far)) e) (a .shows);
   }
@@ -86,6 +92,7 @@ module _ {words twos starts slots marks₀ first₀ marks first : List ℕ} {i w
     unmarked = h .unmarked;
     firsts = h .firsts;
     within = h .within;
+    grows = h .grows;
     runs = λ l ones p path r s w. let a = h .along l ones p path r s w in
         rw (a .goes-on) (stays l ones path (a .so-far) (a .shows) over);
   }
@@ -106,6 +113,7 @@ module _ {words twos starts slots marks₀ first₀ marks first : List ℕ} {i w
     unmarked = h .unmarked;
     firsts = h .firsts;
     within = omega arith;
+    grows = omega (arith, h .grows);
     runs = λ l ones p path r s w. let a = h .along l ones p path r s w in
         rw (a .goes-on) (ends l ones path (a .so-far) (shows-spent (length words) budget (a .shows) few at (path ++
         (getD words e 0 ∷ []))));
@@ -129,11 +137,12 @@ module _ {words twos starts slots marks kept : List ℕ} {i placed state budget 
     unmarked = refl;
     firsts = refl;
     within = ready .within;
+    grows = omega arith;
     runs = λ l ones p path r s w. let none : length words - i ≡ 0 = omega arith in rw none w;
   }
 
   abbrev own-place : i < length words → Place i words (ready .ones) twos starts slots marks
-  own-place inside = record { prepared = ready .prepared; spans = ready .spans; past = ready .past; inside = inside }
+  own-place inside = record { prepared = ready .prepared; spans = ready .spans; past = ready .stands .past; inside = inside }
 
   module _ (inside : i < length words) {want lo hi lo′ hi′ k : ℕ} (mask : ℕ) (lo-is : lo ≡ getD starts i 0)
       (hi-is : hi ≡ getD starts (i + 1) 0)
@@ -145,6 +154,7 @@ module _ {words twos starts slots marks kept : List ℕ} {i placed state budget 
       unmarked = refl;
       firsts = refl;
       within = ready .within;
+      grows = omega arith;
       along = λ l ones p path r s w. record {
         so-far = r;
         shows = w;
@@ -154,14 +164,15 @@ module _ {words twos starts slots marks kept : List ℕ} {i placed state budget 
       where
         read : (l : ℕ) (ones : List ℕ) {p : Option ℕ} {path : List ℕ} → Sought l words ones twos starts slots mask i want p path
             → Place i words ones twos starts slots marks
-        read l ones s = record { prepared = s .prepared; spans = spans-rise (s .card); past = ready .past; inside = inside }
+        read l ones s = record { prepared = s .prepared; spans = spans-rise (s .card); past = ready .stands .past; inside = inside }
 
     -- the slots that may be tried
-    pub open-start : Open words twos slots marks i k hi′
+    pub open-start : Open words twos starts slots marks i k hi′
     open-start = record {
       listed = record { ends = there; below = λ x from to. opened-below (own-place inside) (getD slots x 0) (x-in x from to) };
       free = next .free;
       alone = λ x from to. opened-alone (own-place inside) (getD slots x 0) (x-in x from to);
+      here = λ x from to. opened-in (own-place inside) (getD slots x 0) (x-in x from to);
     }
       where
         last-start : getD starts (i + 1) 0 ≤ length slots
@@ -222,6 +233,7 @@ pub record Turning (words twos starts slots marks₀ first₀ marks first : List
   pub low : e < length words
   pub free : isLeft marks₀ e ≡ true
   pub alone : Alone i words twos marks₀ e
+  pub here : In e (listAt starts slots i)
 
 pub looping-turn : {words twos starts slots marks₀ first₀ marks first : List ℕ} {i want mask budget hi k e placed₀ state₀ placed state : ℕ}
     → Looping words twos starts slots marks₀ first₀ marks first i want mask budget hi k placed₀ state₀ placed state → k < hi
@@ -232,15 +244,18 @@ looping-turn {k} o h q = rw q record {
   low = o .open-slots .listed .below k (omega arith) h;
   free = o .open-slots .free h;
   alone = o .open-slots .alone k (omega arith) h;
+  here = o .open-slots .here k (omega arith) h;
 }
 
-pub open-next : {words twos slots marks₀ marks : List ℕ} {i want w k hi k′ : ℕ} → Open words twos slots marks₀ i k hi → marks ≡ marks₀
+pub open-next : {words twos starts slots marks₀ marks : List ℕ} {i want w k hi k′ : ℕ} → Open words twos starts slots marks₀ i k hi
+    → marks ≡ marks₀
     → Next slots words marks i want w (k + 1) hi k′
-    → Open words twos slots marks₀ i k′ hi
+    → Open words twos starts slots marks₀ i k′ hi
 open-next o e n = record {
   listed = record { ends = o .listed .ends; below = λ x from to. o .listed .below x (omega (arith, n .on)) to };
   free = λ h. rw e at (n .free h);
   alone = λ x from to. o .alone x (omega (arith, n .on)) to;
+  here = λ x from to. o .here x (omega (arith, n .on)) to;
 }
 
 -- ---- the placement of an entry, and the walk below it
@@ -267,8 +282,9 @@ module _ {words twos starts slots marks₀ kept₀ marks kept kept′ : List ℕ
   marked = omega (arith, ready .marks-all, ap length (held .unmarked))
 
   -- the call below is made where no entry that is left ends before its place
-  pub ready-below : Alone i words twos marks₀ e → Ready words twos starts slots (set marks e 1) kept′ (i + 1) placed′ state′ budget
-  ready-below alone = record {
+  pub ready-below : Alone i words twos marks₀ e → In e (listAt starts slots i)
+      → Ready words twos starts slots (set marks e 1) kept′ (i + 1) placed′ state′ budget
+  ready-below alone here = record {
     ones = ready .ones;
     prepared = ready .prepared;
     spans = ready .spans;
@@ -278,10 +294,21 @@ module _ {words twos starts slots marks₀ kept₀ marks kept kept′ : List ℕ
     inside = omega arith;
     within = omega (arith, counted .count);
     going = λ h. omega (arith, counted .other h);
-    past = λ x below left-is. let n = other x left-is in
-        omega (arith, alone .others x below (rw (getD-set-other marks e x 1 0 n, held .unmarked) at left-is) n);
+    stands = record {
+      past = λ x below left-is. let n = other x left-is in
+          omega (arith, alone .others x below (rw (getD-set-other marks e x 1 0 n, held .unmarked) at left-is) n);
+      begun = λ h x below marked-is lasts. ready .prepared .there (i + 1) x h below
+          (⊎-elim (λ q. rw q (begins e here)) (λ n. begins x (before-it x below n marked-is (omega arith))) (same-or-not x e)) lasts;
+    };
   }
     where
+      begins : (x : ℕ) → In x (listAt starts slots i) → getD (ready .ones) x 0 ≤ i + 1
+      begins x m = omega (arith, ready .prepared .here i x inside m .1)
+
+      before-it : (x : ℕ) → x < length words → (x ≡ e → ⊥) → isLeft (set marks e 1) x ≡ false → i ≤ getD twos x 0
+          → In x (listAt starts slots i)
+      before-it x below n h lasts = ready .stands .begun inside x below (rw (getD-set-other marks e x 1 0 n, held .unmarked) at h) lasts
+
       other : (x : ℕ) → isLeft (set marks e 1) x ≡ true → x ≡ e → ⊥
       other x h q = true≢false (sym (rw (q, getD-set-same marks e 1 0 marked) at h))
 
@@ -348,5 +375,6 @@ module _ {words twos starts slots marks₀ kept₀ marks kept kept′ : List ℕ
       unmarked = unmarked-again;
       firsts = went .firsts ∙ kept-length ∙ sym (ready .firsts-all);
       within = went .within;
+      grows = omega (arith, held .grows, counted .count, went .grows);
       along = further;
     }

@@ -1,13 +1,16 @@
 -- `KeepLaws`: tests, and those of a list that pass one.
 -- `StepLaws`: the slots of a place: what is due, what is opened, and what is tried from a slot on.
 -- `Candidates`: who is a candidate at a place, by the place's list alone.
--- `RunLaws`: the run at a place, as the code makes it.
+-- `RunLaws`: the run at a place, as the code makes it. `DeadLaws`: a run over what completes no build.
+-- `RecallLaws`: what is remembered of a state is true, and what is told of it is what the walk would come to.
 pub mod KeepLaws
 pub mod SpanLaws
 pub mod StepLaws
 pub mod Candidates
 pub mod RunLaws
+pub mod DeadLaws
 pub mod Turns
 pub mod Held
+pub mod RecallLaws
 pub mod WholeLaws
 pub mod Determined

@@ -15,7 +15,8 @@ use Rattle.sequence.specs.Lists.{In, first, later, keep, numbers}
 use Rattle.sequence.proofs.ListLaws.{in-cons}
 use Rattle.spans.specs.Run.{Run, searching, one, two, spent, reach}
 use Rattle.spans.proofs.Order.{firsts, firstsAfter}
-use Rattle.walk.specs.Steps.{isLeft, spanAt, left, tries, Placed}
+use Rattle.memory.specs.Tally.{Placed}
+use Rattle.walk.specs.Steps.{isLeft, spanAt, left, tries}
 use Rattle.walk.specs.Going.{Shows, none-yet, one-build, two-builds, stopped}
 use Rattle.walk.proofs.KeepLaws.{and-false, and-true, keep-same}
 

@@ -5,8 +5,8 @@ use mathlib.Core.List.{List, [], _∷_, _++_}
 use Prim.Native.Nat.{ℕ, zero, suc, _+_, _-_, _/_, _≤_, _<_}
 use native.Mathlib.Omega.{arith}
 use native.Mathlib.Numerals.{add-one}
-use lib.ListN.{length, getD, take, drop-of-length-le}
-use lib.Seq.{slice-cons, length-take-le}
+use lib.ListN.{length, getD, take, drop, drop-of-length-le}
+use lib.Seq.{slice-cons, length-take-le, take-add, drop-at}
 use lib.Dec.{eqb, ltb}
 use borrow.Author.Tests.{lt-ltb, le-ltb, eq-eqb, ne-eqb}
 use Rattle.answers.proofs.Tests.{both}
@@ -27,6 +27,14 @@ part-one : (xs : List ℕ) (k : ℕ) → k < length xs → part xs k (k + 1) ≡
 part-one xs k h =
     part-cons xs k (k + 1) (omega arith) (omega arith)
     ∙ ap (λ (l : List ℕ). getD xs k 0 ∷ l) (part-none xs (k + 1) (k + 1) (omega arith) (omega arith))
+
+-- a part as the code lends it
+pub part-lent : (xs : List ℕ) (lo hi : ℕ) → lo ≤ hi → hi ≤ length xs → take (hi - lo) (drop lo xs) ≡ part xs lo hi
+part-lent xs lo hi h there =
+    let d = hi - lo in
+    let sum : hi ≡ lo + d = omega arith in
+    sym (ap (λ (n : ℕ). drop lo (take n xs)) sum ∙ ap (drop lo) (take-add lo d xs)
+    ∙ drop-at (take lo xs) (take d (drop lo xs)) lo (length-take-le lo xs (omega arith)))
 
 -- what stands from lo up to hi is in the part
 pub in-part : (xs : List ℕ) (lo hi x : ℕ) → lo ≤ x → x < hi → hi ≤ length xs → In (getD xs x 0) (part xs lo hi)

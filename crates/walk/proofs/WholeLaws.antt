@@ -1,6 +1,7 @@
 -- The whole walk: where every entry is left and no word stands yet, the run of the code is the run of the definition, and what it comes to
 -- means what it says. Assumes nothing.
 use mathlib.Core.Path.{_≡_, refl, sym, ap, _∙_}
+use mathlib.Core.Bool.{true≢false}
 use mathlib.Core.List.{List, [], _∷_, _++_, map}
 use mathlib.Core.Option.{none}
 use Prim.Native.Nat.{ℕ, zero, suc, _+_, _-_, _^_, _≤_, _<_}
@@ -92,7 +93,10 @@ module _ {l : ℕ} {words ones twos starts slots marks : List ℕ} (card : Spans
     inside = omega arith;
     within = omega arith;
     going = λ h. omega arith;
-    past = λ k h g. omega arith;
+    stands = record {
+      past = λ k h g. omega arith;
+      begun = λ h k below marked lasts. absurd (true≢false (sym (unmarked .each k (omega arith)) ∙ marked));
+    };
   }
 
   abbrev es : List Slot

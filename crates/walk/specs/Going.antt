@@ -1,24 +1,24 @@
 -- What a call of the recursive walk asks and promises: it makes the run over what the walk reaches from its place on, and undoes its marks.
 --   Shows path placed state first r        == what the code keeps is the run r, after the words `path`
---   Ready …                                == a call is made where no entry that is left ends before its place
+--   Stands words twos starts slots marks i == before the place i is filled: no entry that is left ends before it, and each that is placed and
+--                                             does not is in its list, so that those in its list tell which are placed
+--   Ready …                                == a call is made where its entries stand so
 --   Sought …                               == the card, the place and the words before it, to a reader of the definition
 --   Went …                                 == what a call promises
 -- Assumes nothing.
 use mathlib.Core.Path.{_≡_}
-use mathlib.Core.Bool.{true}
+use mathlib.Core.Bool.{true, false}
 use mathlib.Core.List.{List, _++_, map}
 use mathlib.Core.Option.{Option, none, some}
 use Prim.Native.Nat.{ℕ, _+_, _-_, _^_, _%_, _≤_, _<_}
 use lib.ListN.{length, getD, take}
 use Rattle.spans.specs.Walk.{walk}
+use Rattle.sequence.specs.Lists.{In}
 use Rattle.spans.specs.Run.{Run, searching, one, two, spent, run}
+use Rattle.memory.specs.Tally.{spentState}
 use Rattle.tables.specs.Spans.{Spans}
-use Rattle.tables.specs.Prepared.{Prepared}
+use Rattle.tables.specs.Prepared.{Prepared, listAt}
 use Rattle.walk.specs.Steps.{isLeft, left}
-
--- states: 0, 1 and 2 are the builds that are complete, 3 is that the budget is spent
-abbrev pub spentState : ℕ
-spentState = 3
 
 -- the words that stand are kept while no build is complete, and then those of the first build
 pub data Shows (path : List ℕ) : ℕ → ℕ → List ℕ → Run → Type 0 where
@@ -26,6 +26,10 @@ pub data Shows (path : List ℕ) : ℕ → ℕ → List ℕ → Run → Type 0 w
   one-build : {n : ℕ} {first : List ℕ} → Shows path n 1 first (one first n)
   two-builds : {n : ℕ} {first : List ℕ} → Shows path n 2 first (two first n)
   stopped : {n : ℕ} {first : List ℕ} → Shows path n spentState first spent
+
+pub record Stands (words twos starts slots marks : List ℕ) (i : ℕ) : Type 0 where
+  pub past : (k : ℕ) → k < length words → isLeft marks k ≡ true → i ≤ getD twos k 0
+  pub begun : i < length words → (k : ℕ) → k < length words → isLeft marks k ≡ false → i ≤ getD twos k 0 → In k (listAt starts slots i)
 
 pub record Ready (words twos starts slots marks first : List ℕ) (i placed state budget : ℕ) : Type 0 where
   pub ones : List ℕ
@@ -37,7 +41,7 @@ pub record Ready (words twos starts slots marks first : List ℕ) (i placed stat
   pub inside : i ≤ length words
   pub within : placed ≤ budget
   pub going : i < length words → state < 2
-  pub past : (k : ℕ) → k < length words → isLeft marks k ≡ true → i ≤ getD twos k 0
+  pub stands : Stands words twos starts slots marks i
 
 -- the word before, by its last letters
 pub data Wants (l : ℕ) : ℕ → ℕ → Option ℕ → Type 0 where
@@ -56,6 +60,7 @@ pub record Went (words twos starts slots marks first marks′ first′ : List �
   pub unmarked : marks′ ≡ marks
   pub firsts : length first′ ≡ length first
   pub within : placed′ ≤ budget
+  pub grows : placed ≤ placed′
   pub runs : (l : ℕ) (ones : List ℕ) (p : Option ℕ) (path : List ℕ) (r : Run) → Sought l words ones twos starts slots mask i want p path
       → Shows path placed state first r
       → Shows path placed′ state′ first′

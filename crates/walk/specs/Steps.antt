@@ -81,12 +81,6 @@ pub record Next (slots words marks : List ℕ) (i want w from hi r : ℕ) : Type
   pub rest : tries (able words marks i want) (λ j. getD words j 0) w (part slots from hi)
       ≡ ahead (able words marks i want) words slots r hi
 
--- what `placed_at` promises: one placement more, and one build more where the place i is the last of m
-pub record Placed (i m placed state placed′ state′ : ℕ) : Type 0 where
-  pub count : placed′ ≡ placed + 1
-  pub last : i + 1 ≡ m → state′ ≡ state + 1
-  pub other : i + 1 < m → state′ ≡ state
-
 -- what `unmark` promises: each entry is left
 pub record Unmarked (marks : List ℕ) : Type 0 where
   pub each : (k : ℕ) → k < length marks → isLeft marks k ≡ true

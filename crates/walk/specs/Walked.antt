@@ -1,5 +1,4 @@
 -- What a walk over lists answers, and what that means.
---   mostBudget                     == the largest budget
 --   saysWalked l ws r              == what the enum `Walked` says, where ws are the words that are given with it
 --   GivesBuild r                   == r gives a build
 --   Right l es True r ws           == r says what is true, where `True o` says so of an outcome o, and where it gives a build, ws are the
@@ -15,10 +14,6 @@ use Rattle.sequence.specs.Verdict.{sole, several, noBuild, Outcome, settled, un
 use Rattle.spans.specs.Settling.{spanEntries, Means}
 use Rattle.walk.specs.declared.Walked.{Walked}
 use Rattle.walk.specs.declared.Walked.the-variants.{Sole, Several, None, Unsettled}
-
--- "A budget is 0 to 4,294,967,295."
-abbrev pub mostBudget : ℕ
-mostBudget = 4294967295
 
 -- "Build answers Sole, Several, None, Unsettled […], each with its own numbers"
 abbrev pub saysWalked : ℕ → List ℕ → Walked → Outcome

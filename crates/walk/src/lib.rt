@@ -7,15 +7,13 @@ ghost use lib.ListN.{length, getD, set, take};
 ghost use Rattle.entries.specs.Slot.{entriesIn};
 ghost use Rattle.tables.specs.Spans.{Spans};
 ghost use Rattle.tables.specs.Room.{Room};
-ghost use Rattle.walk.specs.Walked.{mostBudget, Walks};
-ghost use Rattle.walk.specs.Steps.{Unmarked, walkedAt, agrees, canTry, isDue, Listed, Opened, Next, Placed};
+ghost use Rattle.walk.specs.Walked.{Walks};
+ghost use Rattle.walk.specs.Steps.{Unmarked, walkedAt, agrees, canTry, isDue, Listed, Opened, Next};
 ghost use Rattle.walk.specs.Going.{Ready, Went};
-
-// How far a walk has come: the placements made, and the builds that are complete, or 3 where the budget is spent.
-pub struct Tally {
-    pub placed: u32,
-    pub state: u32,
-}
+ghost use Rattle.walk.specs.Recalling.{Recalls};
+use memory::UNKNOWN;
+use memory::tally::SPENT;
+use memory::tally::Tally;
 
 // What a walk comes to, with its placements: one build, several, none, or that it is unsettled.
 pub enum Walked {
@@ -33,8 +31,6 @@ struct Slots {
 
 // What no word is.
 const NO_WORD: u32 = 4294967295;
-// The state in which the budget is spent.
-const SPENT: u32 = 3;
 
 // Entry number k of a list.
 fn at16(s: &[u16], k: usize) -> usize
@@ -150,27 +146,8 @@ fn keep_word(first: &mut [u32], i: usize, w: u32, state: u32)
     }
 }
 
-// A placement at the place i of m: it is counted, and at the last place it completes a build.
-fn placed_at(i: usize, m: usize, t: Tally) -> Tally
-    requires { ⌜ (i < m) × (t .placed < mostBudget) × (t .state < 2) ⌝ }
-    ensures { λ r. ⌜ Placed i m (t .placed) (t .state) (r .placed) (r .state) ⌝ }
-{
-    let placed = t.placed + 1;
-    if i + 1 == m {
-        Tally {
-            placed,
-            state: t.state + 1,
-        }
-    } else {
-        Tally {
-            placed,
-            state: t.state,
-        }
-    }
-}
-
 // The walk from the place i on, where the marks say which entries are placed; `want` are the last letters of the word before. The number of
-// unplaced entries falls at each placement.
+// unplaced entries falls at each placement. A state that is known to end without a build is not walked again.
 fn walk_from(
     starts: &[u32],
     slots: &[u16],
@@ -178,6 +155,7 @@ fn walk_from(
     twos: &[u16],
     marks: &mut [u8],
     first: &mut [u32],
+    known: &mut [u64; memory::NUMBERS],
     i: usize,
     want: u32,
     mask: u32,
@@ -185,10 +163,12 @@ fn walk_from(
     t: Tally,
 ) -> Tally
     requires { ⌜ Ready (now words) (now twos) (now starts) (now slots) (now marks) (now first) i (t .placed) (t .state) budget ⌝ }
+    requires { ⌜ Recalls (now words) (now twos) (now starts) (now slots) (now known) mask ⌝ }
     ensures { λ r. ⌜
         Went (now (words .entry)) (now (twos .entry)) (now (starts .entry)) (now (slots .entry)) (now (marks .entry)) (now (first .entry))
         (now (marks .exit)) (now (first .exit)) mask i want budget (t .placed) (t .state) (r .placed) (r .state)
         ⌝ }
+    ensures { λ _. ⌜ Recalls (now (words .entry)) (now (twos .entry)) (now (starts .entry)) (now (slots .entry)) (now (known .exit)) mask ⌝ }
 {
     if i == words.len() {
         return t;
@@ -197,8 +177,16 @@ fn walk_from(
     let end = start_of(starts, i + 1);
     let open = due(slots, twos, marks, lo, end, i);
     let hi = open.hi;
-    let mut acc = t;
     let mut k = next(slots, words, marks, open.lo, hi, i, want, NO_WORD);
+    if k >= hi {
+        return t;
+    }
+    let key = memory::key_of(&slots[lo..end], marks, i, want, t.placed);
+    let size = memory::recall(known, key);
+    if size < UNKNOWN {
+        return memory::tally::skipped(size, budget, t);
+    }
+    let mut acc = t;
     while k < hi {
         if acc.placed == budget {
             return Tally {
@@ -210,7 +198,7 @@ fn walk_from(
         let w = words[e];
         marks[e] = 1;
         keep_word(first, i, w, acc.state);
-        acc = placed_at(i, words.len(), acc);
+        acc = memory::tally::placed_at(i, words.len(), acc);
         acc = walk_from(
             starts,
             slots,
@@ -218,6 +206,7 @@ fn walk_from(
             twos,
             marks,
             first,
+            known,
             i + 1,
             w & mask,
             mask,
@@ -230,6 +219,7 @@ fn walk_from(
         }
         k = next(slots, words, marks, k + 1, hi, i, want, w);
     }
+    memory::remember(known, key, t, acc);
     acc
 }
 
@@ -296,6 +286,7 @@ pub fn walk(
         placed: 0,
         state: 0,
     };
+    let mut known = memory::nothing();
     let t = walk_from(
         starts,
         slots,
@@ -303,6 +294,7 @@ pub fn walk(
         twos,
         &mut marks[..m],
         &mut first[..m],
+        &mut known,
         0,
         0,
         mask,

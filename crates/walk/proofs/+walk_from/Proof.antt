@@ -1,40 +1,47 @@
--- `walk_from` meets its contract. What falls is the number of unplaced entries, m − i; in the loop hi − k falls, and `Looping` holds:
--- the marks are as at the call, and for every reader of the definition the run has come so far. The laws are those of `Held`.
--- Assumes nothing.
-use Prim.Native.Nat.{ℕ, _+_, _-_, _<_}
+-- `walk_from` meets its contract, by the number of entries that are not placed, which falls with each placement. The loop keeps `Looping`:
+-- the marks are as at the call, and for every reader of the definition the run has come so far; and that what the memory says is true
+-- (`Recalls`). The laws are those of `Held` and `RecallLaws`. Assumes nothing.
+use Prim.Native.Nat.{ℕ, _+_, _-_, _≤_, _<_}
 use mathlib.Core.Path.{_≡_, sym, ap, _∙_}
-use Rattle.tables.specs.Prepared.{part}
-use Rattle.walk.specs.Steps.{able, tries}
+use Rattle.memory.specs.Memory.{Keyed}
+use Rattle.tables.specs.Prepared.{part, listAt}
+use Rattle.walk.specs.Steps.{able, tries, Listed}
 use Rattle.walk.specs.Going.{Ready}
+use Rattle.walk.specs.Recalling.{Recalls}
 use native.Mathlib.Omega.{arith}
-use lib.ListN.{length, getD, set}
+use lib.ListN.{length, getD, set, take, drop}
 use borrow.Author.Needs.{needs}
 use Rattle.walk.proofs.Held.{Held, Looping, Turning, still-marked, marks-kept, looping-turn, ready-end, held-start, open-start}
 use Rattle.walk.proofs.Held.{listed-start, held-spent, held-at, held-end, held-over, held-next, held-turn, open-next, ready-below}
+use Rattle.walk.proofs.RecallLaws.{list-rises, list-ends, list-lent, list-below, told-went, recalls-stored}
 use Rattle.walk.proofs.StepLaws.{listed-open, listed-on, ahead-none}
 use borrow.Fn.Kinds.{In}
 use borrow.Fn.PlainCycle.{Measures, is, falls, and}
 use Rattle.walk.proofs.walk_from.Reads as walk-from
 use Rattle.walk.proofs.walk_from.Kinds as walk-from-kinds
 use Rattle.walk.proofs.+walk_from.Lts-walk_from as walk-from-lts
+use Rattle.memory.proofs.key_of.Reads as key-of-reads
+use Rattle.memory.proofs.recall.Reads as recall-reads
+use Rattle.memory.proofs.remember.Reads as remember-reads
+use Rattle.memory.proofs.tally.skipped.Reads as skipped-reads
 use Rattle.walk.proofs.at16.Reads as at16-reads
 use Rattle.walk.proofs.due.Reads as due-reads
 use Rattle.walk.proofs.keep_word.Reads as keep-word-reads
 use Rattle.walk.proofs.next.Reads as next-reads
-use Rattle.walk.proofs.placed_at.Reads as placed-at-reads
+use Rattle.memory.proofs.tally.placed_at.Reads as placed-at-reads
 use Rattle.walk.proofs.start_of.Reads as start-of-reads
 use Rattle.walk.proofs.+walk_from.{statement}
 use Rattle.walk.proofs.+walk_from.Tie.{close}
 
-abbrev μ-walk-from : Measures 6 walk-from-kinds.ps ℕ
-μ-walk-from κs a = length (a .1 .1 .0 .now) - a .1 .1 .1 .1 .1 .1 .0
+abbrev μ-walk-from : Measures 7 walk-from-kinds.ps ℕ
+μ-walk-from κs a = length (a .1 .1 .0 .now) - a .1 .1 .1 .1 .1 .1 .1 .0
 
-abbrev walk-from-at : ℕ → In 6 walk-from-kinds.ps
-walk-from-at t = and 6 walk-from-kinds.ps (is 6 walk-from-kinds.ps μ-walk-from t) walk-from.Pre
+abbrev walk-from-at : ℕ → In 7 walk-from-kinds.ps
+walk-from-at t = and 7 walk-from-kinds.ps (is 7 walk-from-kinds.ps μ-walk-from t) walk-from.Pre
 
-abbrev walk-from-below : ℕ → In 6 walk-from-kinds.ps
+abbrev walk-from-below : ℕ → In 7 walk-from-kinds.ps
 walk-from-below t =
-    and 6 walk-from-kinds.ps (falls 6 walk-from-kinds.ps _<_ μ-walk-from t) walk-from.Pre
+    and 7 walk-from-kinds.ps (falls 7 walk-from-kinds.ps _<_ μ-walk-from t) walk-from.Pre
 
 abbrev calls : ℕ → walk-from-lts.Claims
 calls t = (
@@ -44,6 +51,12 @@ calls t = (
   due-reads.Learnt,
   next-reads.Asked,
   next-reads.Learnt,
+  key-of-reads.Asked,
+  key-of-reads.Learnt,
+  recall-reads.Asked,
+  recall-reads.Learnt,
+  skipped-reads.Asked,
+  skipped-reads.Learnt,
   at16-reads.Asked,
   at16-reads.Learnt,
   keep-word-reads.Asked,
@@ -52,15 +65,17 @@ calls t = (
   placed-at-reads.Learnt,
   walk-from-below t,
   walk-from.Post,
+  remember-reads.Asked,
+  remember-reads.Learnt,
 )
 
 abbrev walk-from-Inv-loop : walk-from-lts.InvT-loop
-walk-from-Inv-loop starts slots words twos marks₀ first₀ i want mask budget lo end hi acc₀ k₀ marks first acc k =
-    Looping words twos starts slots marks₀ first₀ marks first i want mask budget hi k (acc₀ .placed) (acc₀ .state) (acc .placed)
-    (acc .state)
+walk-from-Inv-loop starts slots words twos marks₀ first₀ known₀ i want mask budget t lo end hi k₀ key size acc₀ marks first known k acc =
+    Looping words twos starts slots marks₀ first₀ marks first i want mask budget hi k (t .placed) (t .state) (acc .placed) (acc .state)
+    × Recalls words twos starts slots known mask
 
 abbrev walk-from-μ-loop : walk-from-lts.MeasureT-loop
-walk-from-μ-loop starts slots words twos marks₀ first₀ i want mask budget lo end hi acc₀ k₀ marks first acc k =
+walk-from-μ-loop starts slots words twos marks₀ first₀ known₀ i want mask budget t lo end hi k₀ key size acc₀ marks first known k acc =
     hi - k
 
 -- ---- places, from the last to the start of the call
@@ -72,11 +87,23 @@ module _ (t : ℕ) where
   abbrev Passed : Type 0
   Passed = walk-from-lts.Else1 (calls t) (walk-from-at t) walk-from.Post walk-from-Inv-loop walk-from-μ-loop
 
-  abbrev Entered : Type 0
-  Entered = walk-from-lts.After-next (calls t) (walk-from-at t) walk-from.Post walk-from-Inv-loop walk-from-μ-loop
+  abbrev Bounded : Type 0
+  Bounded = walk-from-lts.After-start-of2 (calls t) (walk-from-at t) walk-from.Post walk-from-Inv-loop walk-from-μ-loop
+
+  abbrev Tried : Type 0
+  Tried = walk-from-lts.After-next (calls t) (walk-from-at t) walk-from.Post walk-from-Inv-loop walk-from-μ-loop
+
+  abbrev Told : Type 0
+  Told = walk-from-lts.After-key-of (calls t) (walk-from-at t) walk-from.Post walk-from-Inv-loop walk-from-μ-loop
+
+  abbrev Asked : Type 0
+  Asked = walk-from-lts.After-recall (calls t) (walk-from-at t) walk-from.Post walk-from-Inv-loop walk-from-μ-loop
+
+  abbrev Turn : Type 0
+  Turn = walk-from-lts.In-loop (calls t) (walk-from-at t) walk-from.Post walk-from-Inv-loop walk-from-μ-loop
 
   abbrev Within : Type 0
-  Within = walk-from-lts.Else2 (calls t) (walk-from-at t) walk-from.Post walk-from-Inv-loop walk-from-μ-loop
+  Within = walk-from-lts.Else4 (calls t) (walk-from-at t) walk-from.Post walk-from-Inv-loop walk-from-μ-loop
 
   abbrev Found : Type 0
   Found = walk-from-lts.After-at16 (calls t) (walk-from-at t) walk-from.Post walk-from-Inv-loop walk-from-μ-loop
@@ -93,17 +120,26 @@ module _ (t : ℕ) where
   abbrev Undone : Type 0
   Undone = walk-from-lts.After-slice-known5 (calls t) (walk-from-at t) walk-from.Post walk-from-Inv-loop walk-from-μ-loop
 
-  abbrev Gone-on : Type 0
-  Gone-on = walk-from-lts.Else3 (calls t) (walk-from-at t) walk-from.Post walk-from-Inv-loop walk-from-μ-loop
+  abbrev Ran-out : Type 0
+  Ran-out = walk-from-lts.After-loop (calls t) (walk-from-at t) walk-from.Post walk-from-Inv-loop walk-from-μ-loop
 
   abbrev start : Passed → Start
   start c = c .before .before .before .before .before .before .before
 
-  abbrev passed : Entered → Passed
-  passed c = c .before .before .before .before .before .before
+  abbrev bounds : Tried → Bounded
+  bounds c = c .before .before .before .before
 
-  abbrev entered : Within → Entered
-  entered c = c .before .before .before .before
+  abbrev tried : Told → Tried
+  tried c = c .before .before .before .before
+
+  abbrev told : Asked → Told
+  told c = c .before .before
+
+  abbrev asked : Turn → Asked
+  asked c = c .before .before .before
+
+  abbrev turn-of : Within → Turn
+  turn-of c = c .before .before
 
   abbrev within : Found → Within
   within c = c .before
@@ -115,37 +151,102 @@ module _ (t : ℕ) where
   kept c = c .before .before .before
 
   abbrev counted : Called → Counted
-  counted c = c .before .before .before
+  counted c = c .before .before .before .before
 
   abbrev called : Undone → Called
   called c = c .before .before .before .before
 
 -- ---- facts at places
 
+-- the call
 module _ (t : ℕ) (c : Start t) where
   ready : Ready (c .args .words .now) (c .args .twos .now) (c .args .starts .now) (c .args .slots .now) (c .args .marks .now)
       (c .args .first .now) (c .args .i) (c .args .t .placed) (c .args .t .state) (c .args .budget)
-  ready = c .pre .1
+  ready = c .pre .1 .0
+
+  recalls : Recalls (c .args .words .now) (c .args .twos .now) (c .args .starts .now) (c .args .slots .now) (c .args .known .now)
+      (c .args .mask)
+  recalls = c .pre .1 .1
 
 inside : (t : ℕ) (c : Passed t) → start t c .args .i < length (start t c .args .words .now)
 inside t c = omega (arith, ready t (start t c) .inside, c .if1 .left)
 
+-- the list of the place begins at lo, and ends at hi
+module _ (t : ℕ) (c : Bounded t) where
+  abbrev at-place : Passed t
+  at-place = c .before .before
+
+  abbrev placed-with : Start t
+  placed-with = start t at-place
+
+  lo-is : c .before .start-of .result ≡ getD (placed-with .args .starts .now) (placed-with .args .i) 0
+  lo-is = c .before .start-of .ensures
+
+  hi-is : c .start-of2 .result ≡ getD (placed-with .args .starts .now) (placed-with .args .i + 1) 0
+  hi-is = c .start-of2 .ensures
+
+  in-slots : (c .before .start-of .result ≤ c .start-of2 .result) × (c .start-of2 .result ≤ length (placed-with .args .slots .now))
+  in-slots =
+      let card = ready t placed-with in
+      (list-rises card (inside t at-place) lo-is hi-is, list-ends card (inside t at-place) lo-is hi-is)
+
+  -- the code lends it as a part
+  lent-list : take (c .start-of2 .result - c .before .start-of .result) (drop (c .before .start-of .result) (placed-with .args .slots .now))
+      ≡ listAt (placed-with .args .starts .now) (placed-with .args .slots .now) (placed-with .args .i)
+  lent-list = list-lent (ready t placed-with) (inside t at-place) lo-is hi-is
+
+  list : Listed (placed-with .args .slots .now) (c .before .start-of .result) (c .start-of2 .result) (length (placed-with .args .words .now))
+  list = listed-start (ready t placed-with) (inside t at-place) lo-is hi-is
+
+-- slot k is the first that is tried
+module _ (t : ℕ) (c : Tried t) where
+  abbrev tried-with : Start t
+  tried-with = placed-with t (bounds t c)
+
+  begins : Looping (tried-with .args .words .now) (tried-with .args .twos .now) (tried-with .args .starts .now) (tried-with .args .slots .now)
+      (tried-with .args .marks .now) (tried-with .args .first .now) (tried-with .args .marks .now) (tried-with .args .first .now)
+      (tried-with .args .i) (tried-with .args .want) (tried-with .args .mask) (tried-with .args .budget)
+      (c .before .before .due .result .hi) (c .next .result) (tried-with .args .t .placed) (tried-with .args .t .state)
+      (tried-with .args .t .placed) (tried-with .args .t .state)
+  begins =
+      let card = ready t tried-with in
+      let at = bounds t c in
+      let open-is = c .before .before .due .ensures in
+      record {
+        held = held-start card (inside t (at-place t at)) _ (lo-is t at) (hi-is t at) open-is (c .next .ensures);
+        open-slots = open-start card (inside t (at-place t at)) 0 (lo-is t at) (hi-is t at) open-is (c .next .ensures);
+        going = card .going (inside t (at-place t at));
+        inside = inside t (at-place t at);
+      }
+
+-- the state has its key
+module _ (t : ℕ) (c : Told t) where
+  abbrev keyed-with : Start t
+  keyed-with = tried-with t (tried t c)
+
+  keyed : Keyed (keyed-with .args .marks .now) (listAt (keyed-with .args .starts .now) (keyed-with .args .slots .now) (keyed-with .args .i))
+      (keyed-with .args .i) (keyed-with .args .want) (c .key-of .result)
+  keyed = rw (lent-list t (bounds t (tried t c))) at (c .key-of .ensures)
+
 -- slot k is tried
 module _ (t : ℕ) (c : Found t) where
+  abbrev at-turn : Turn t
+  at-turn = turn-of t (within t c)
+
   abbrev called-with : Start t
-  called-with = start t (passed t (entered t (within t c)))
+  called-with = keyed-with t (told t (asked t at-turn))
 
   turning : Turning (called-with .args .words .now) (called-with .args .twos .now) (called-with .args .starts .now)
       (called-with .args .slots .now) (called-with .args .marks .now) (called-with .args .first .now)
-      (c .before .before .before .before .loop .marks) (c .before .before .before .before .loop .first) (called-with .args .i)
+      (at-turn .before .loop .marks) (at-turn .before .loop .first) (called-with .args .i)
       (called-with .args .want) (called-with .args .mask) (called-with .args .budget)
-      (entered t (within t c) .before .before .due .result .hi)
-      (c .before .before .before .before .loop .k) (c .at16 .result) (called-with .args .t .placed) (called-with .args .t .state)
-      (c .before .before .before .before .loop .acc .placed) (c .before .before .before .before .loop .acc .state)
-  turning = looping-turn (c .before .before .before .before .loop .inv) (c .before .before .before .loop-test .taken) (c .at16 .ensures)
+      (tried t (told t (asked t at-turn)) .before .before .due .result .hi)
+      (at-turn .before .loop .k) (c .at16 .result) (called-with .args .t .placed) (called-with .args .t .state)
+      (at-turn .before .loop .acc .placed) (at-turn .before .loop .acc .state)
+  turning = looping-turn (at-turn .before .loop .inv .0) (at-turn .loop-test .taken) (c .at16 .ensures)
 
-  room : c .before .before .before .before .loop .acc .placed < called-with .args .budget
-  room = omega (arith, c .before .if2 .left, c .before .before .before .before .loop .inv .held .within)
+  room : at-turn .before .loop .acc .placed < called-with .args .budget
+  room = omega (arith, c .before .if4 .left, at-turn .before .loop .inv .0 .held .within)
 
 -- the walk below is done
 module _ (t : ℕ) (c : Called t) where
@@ -158,33 +259,43 @@ module _ (t : ℕ) (c : Called t) where
   abbrev tries-it : Found t
   tries-it = found t keeps
 
-  abbrev asked : Start t
-  asked = called-with t tries-it
+  abbrev walked-with : Start t
+  walked-with = called-with t tries-it
 
-  turned : Held (asked .args .words .now) (asked .args .twos .now) (asked .args .starts .now) (asked .args .slots .now)
-      (asked .args .marks .now) (asked .args .first .now) (set (c .walk-from .last .1 .1 .1 .1 .0) (tries-it .at16 .result) 0)
-      (c .walk-from .last .1 .1 .1 .1 .1 .0) (asked .args .i) (asked .args .want) (asked .args .mask) (asked .args .budget)
-      (asked .args .t .placed) (asked .args .t .state) (c .walk-from .result .placed) (c .walk-from .result .state)
-      (tries (able (asked .args .words .now) (asked .args .marks .now) (asked .args .i) (asked .args .want))
-      (λ j. getD (asked .args .words .now) j 0) (getD (asked .args .words .now) (tries-it .at16 .result) 0)
-      (part (asked .args .slots .now) (tries-it .before .before .before .before .loop .k + 1)
-      (entered t (within t tries-it) .before .before .due .result .hi)))
+  turned : Held (walked-with .args .words .now) (walked-with .args .twos .now) (walked-with .args .starts .now)
+      (walked-with .args .slots .now) (walked-with .args .marks .now) (walked-with .args .first .now)
+      (set (c .walk-from .last .1 .1 .1 .1 .0) (tries-it .at16 .result) 0)
+      (c .walk-from .last .1 .1 .1 .1 .1 .0) (walked-with .args .i) (walked-with .args .want) (walked-with .args .mask)
+      (walked-with .args .budget) (walked-with .args .t .placed) (walked-with .args .t .state)
+      (c .walk-from .result .placed) (c .walk-from .result .state)
+      (tries (able (walked-with .args .words .now) (walked-with .args .marks .now) (walked-with .args .i) (walked-with .args .want))
+      (λ j. getD (walked-with .args .words .now) j 0) (getD (walked-with .args .words .now) (tries-it .at16 .result) 0)
+      (part (walked-with .args .slots .now) (at-turn t tries-it .before .loop .k + 1)
+      (tried t (told t (asked t (at-turn t tries-it))) .before .before .due .result .hi)))
   turned =
-      let inv = tries-it .before .before .before .before .loop .inv in
+      let inv = at-turn t tries-it .before .loop .inv .0 in
       let at = turning t tries-it in
-      held-turn (ready t asked) (at .held) (inv .inside) (at .low) (at .free) (inv .going) (room t tries-it) (keeps .keep-word .ensures)
-      (counts .placed-at .ensures) (c .walk-from .ensures)
+      held-turn (ready t walked-with) (at .held) (inv .inside) (at .low) (at .free) (inv .going) (room t tries-it)
+      (keeps .keep-word .ensures) (counts .placed-at .ensures) (c .walk-from .ensures .0)
 
-  kept-all : (x : ℕ) → length (set (c .walk-from .last .1 .1 .1 .1 .0) (tries-it .at16 .result) x) ≡ length (asked .args .marks .now)
+  kept-all : (x : ℕ) → length (set (c .walk-from .last .1 .1 .1 .1 .0) (tries-it .at16 .result) x)
+      ≡ length (walked-with .args .marks .now)
   kept-all =
-      let inv = tries-it .before .before .before .before .loop .inv in
+      let inv = at-turn t tries-it .before .loop .inv .0 in
       let at = turning t tries-it in
-      marks-kept (ready t asked) (at .held) (inv .inside) (at .low) (at .free) (inv .going) (room t tries-it) (keeps .keep-word .ensures)
-      (counts .placed-at .ensures) (c .walk-from .ensures)
+      marks-kept (ready t walked-with) (at .held) (inv .inside) (at .low) (at .free) (inv .going) (room t tries-it)
+      (keeps .keep-word .ensures) (counts .placed-at .ensures) (c .walk-from .ensures .0)
+
+-- nothing is left to try
+module _ (t : ℕ) (c : Ran-out t) where
+  abbrev ran-from : Asked t
+  ran-from = c .before .before .before
 
 walk-from-returns : (t : ℕ)
     → walk-from-lts.Need-returns (calls t) (walk-from-at t) walk-from.Post walk-from-Inv-loop walk-from-μ-loop
-walk-from-returns t c = ready-end (ready t (c .before .before .before .before .before .before .before)) _ _ (c .if1 .taken)
+walk-from-returns t c =
+    let at = c .before .before .before .before .before .before .before in
+    (ready-end (ready t at) _ _ (c .if1 .taken), recalls t at)
 
 walk-from-start-of-requires : (t : ℕ)
     → walk-from-lts.Need-start-of-requires (calls t) (walk-from-at t) walk-from.Post walk-from-Inv-loop walk-from-μ-loop
@@ -201,64 +312,101 @@ walk-from-start-of-requires-2 t c κs = omega (arith, inside t (c .before), read
 walk-from-due-requires : (t : ℕ)
     → walk-from-lts.Need-due-requires (calls t) (walk-from-at t) walk-from.Post walk-from-Inv-loop walk-from-μ-loop
 walk-from-due-requires t c κs =
-    let at = c .before .before .before in
-    let card = ready t (start t at) in (
-      rw (card .twos-all) (listed-start card (inside t at) (c .before .before .start-of .ensures) (c .before .start-of2 .ensures)),
-      card .marks-all ∙ sym (card .twos-all),
-    )
+    let at = c .before in
+    let card = ready t (placed-with t at) in
+    (rw (card .twos-all) (list t at), card .marks-all ∙ sym (card .twos-all))
 
 walk-from-next-requires : (t : ℕ)
     → walk-from-lts.Need-next-requires (calls t) (walk-from-at t) walk-from.Post walk-from-Inv-loop walk-from-μ-loop
 walk-from-next-requires t c κs =
-    let at = c .before .before .before .before .before in
-    let card = ready t (start t at) in
-    let list = listed-start card (inside t at) (c .before .before .before .before .start-of .ensures)
-    (c .before .before .before .start-of2 .ensures) in
-    (listed-open list (c .before .due .ensures), card .marks-all)
-
-walk-from-loop-holds : (t : ℕ)
-    → walk-from-lts.Need-loop-holds (calls t) (walk-from-at t) walk-from.Post walk-from-Inv-loop walk-from-μ-loop
-walk-from-loop-holds t c =
-    let at = passed t c in
-    let card = ready t (start t at) in
-    let lo-is = c .before .before .before .before .before .start-of .ensures in
-    let hi-is = c .before .before .before .before .start-of2 .ensures in
-    record {
-      held = held-start card (inside t at) _ lo-is hi-is (c .before .before .due .ensures) (c .next .ensures);
-      open-slots = open-start card (inside t at) 0 lo-is hi-is (c .before .before .due .ensures) (c .next .ensures);
-      going = card .going (inside t at);
-      inside = inside t at;
-    }
+    let at = c .before .before .before in
+    (listed-open (list t at) (c .before .due .ensures), ready t (placed-with t at) .marks-all)
 
 walk-from-same-length : (t : ℕ)
     → walk-from-lts.Need-same-length (calls t) (walk-from-at t) walk-from.Post walk-from-Inv-loop walk-from-μ-loop
-walk-from-same-length t c = ap length (c .before .before .before .loop .inv .held .unmarked)
-
-walk-from-same-length-2 : (t : ℕ)
-    → walk-from-lts.Need-same-length-2 (calls t) (walk-from-at t) walk-from.Post walk-from-Inv-loop walk-from-μ-loop
-walk-from-same-length-2 t c = c .before .before .before .loop .inv .held .firsts
+walk-from-same-length t c = search needs
 
 walk-from-returns-2 : (t : ℕ)
     → walk-from-lts.Need-returns-2 (calls t) (walk-from-at t) walk-from.Post walk-from-Inv-loop walk-from-μ-loop
 walk-from-returns-2 t c =
+    let at = c .before in
+    (held-end (begins t at .held) (ahead-none _ _ _ _ _ (c .if2 .taken)), recalls t (tried-with t at))
+
+walk-from-mul-key-of : (t : ℕ)
+    → walk-from-lts.Need-mul-key-of (calls t) (walk-from-at t) walk-from.Post walk-from-Inv-loop walk-from-μ-loop
+walk-from-mul-key-of t c =
+    let at = bounds t (c .before) in
+    omega (arith, in-slots t at .0, in-slots t at .1, placed-with t at .good)
+
+walk-from-sub-key-of : (t : ℕ)
+    → walk-from-lts.Need-sub-key-of (calls t) (walk-from-at t) walk-from.Post walk-from-Inv-loop walk-from-μ-loop
+walk-from-sub-key-of t c = in-slots t (bounds t (c .before)) .0
+
+walk-from-part-key-of-start : (t : ℕ)
+    → walk-from-lts.Need-part-key-of-start (calls t) (walk-from-at t) walk-from.Post walk-from-Inv-loop walk-from-μ-loop
+walk-from-part-key-of-start t c = in-slots t (bounds t (c .before)) .0
+
+walk-from-part-key-of-end : (t : ℕ)
+    → walk-from-lts.Need-part-key-of-end (calls t) (walk-from-at t) walk-from.Post walk-from-Inv-loop walk-from-μ-loop
+walk-from-part-key-of-end t c = in-slots t (bounds t (c .before)) .1
+
+walk-from-key-of-requires : (t : ℕ)
+    → walk-from-lts.Need-key-of-requires (calls t) (walk-from-at t) walk-from.Post walk-from-Inv-loop walk-from-μ-loop
+walk-from-key-of-requires t c κs =
+    let at = bounds t (c .before .before .before) in
+    list-below (ready t (placed-with t at)) (inside t (at-place t at)) (lo-is t at) (hi-is t at)
+
+walk-from-recall-requires : (t : ℕ)
+    → walk-from-lts.Need-recall-requires (calls t) (walk-from-at t) walk-from.Post walk-from-Inv-loop walk-from-μ-loop
+walk-from-recall-requires t c κs = search needs
+
+walk-from-skipped-requires : (t : ℕ)
+    → walk-from-lts.Need-skipped-requires (calls t) (walk-from-at t) walk-from.Post walk-from-Inv-loop walk-from-μ-loop
+walk-from-skipped-requires t c κs = ready t (keyed-with t (told t (c .before))) .within
+
+walk-from-same-length-2 : (t : ℕ)
+    → walk-from-lts.Need-same-length-2 (calls t) (walk-from-at t) walk-from.Post walk-from-Inv-loop walk-from-μ-loop
+walk-from-same-length-2 t c = search needs
+
+walk-from-returns-3 : (t : ℕ)
+    → walk-from-lts.Need-returns-3 (calls t) (walk-from-at t) walk-from.Post walk-from-Inv-loop walk-from-μ-loop
+walk-from-returns-3 t c =
+    let at = c .before .before in
+    let state = told t at in
+    let call = keyed-with t state in (
+      told-went (ready t call) (begins t (tried t state) .inside) (recalls t call) (keyed t state)
+          (at .recall .ensures .told (c .before .if3 .taken)) (c .skipped .ensures),
+      recalls t call,
+    )
+
+walk-from-loop-holds : (t : ℕ)
+    → walk-from-lts.Need-loop-holds (calls t) (walk-from-at t) walk-from.Post walk-from-Inv-loop walk-from-μ-loop
+walk-from-loop-holds t c =
+    let state = told t (c .before) in
+    (begins t (tried t state), recalls t (keyed-with t state))
+
+walk-from-same-length-3 : (t : ℕ)
+    → walk-from-lts.Need-same-length-3 (calls t) (walk-from-at t) walk-from.Post walk-from-Inv-loop walk-from-μ-loop
+walk-from-same-length-3 t c = ap length (c .before .before .before .loop .inv .0 .held .unmarked)
+
+walk-from-same-length-4 : (t : ℕ)
+    → walk-from-lts.Need-same-length-4 (calls t) (walk-from-at t) walk-from.Post walk-from-Inv-loop walk-from-μ-loop
+walk-from-same-length-4 t c = c .before .before .before .loop .inv .0 .held .firsts
+
+walk-from-returns-4 : (t : ℕ)
+    → walk-from-lts.Need-returns-4 (calls t) (walk-from-at t) walk-from.Post walk-from-Inv-loop walk-from-μ-loop
+walk-from-returns-4 t c =
     let inv = c .before .before .before .loop .inv in
-    held-spent (held-at (c .before .before .loop-test .taken) (inv .held)) (inv .going) (c .if2 .taken)
+    (held-spent (held-at (c .before .before .loop-test .taken) (inv .0 .held)) (inv .0 .going) (c .if4 .taken), inv .1)
 
 walk-from-at16-requires : (t : ℕ)
     → walk-from-lts.Need-at16-requires (calls t) (walk-from-at t) walk-from.Post walk-from-Inv-loop walk-from-μ-loop
 walk-from-at16-requires t c κs =
-    omega (arith, c .before .before .before .loop .inv .open-slots .listed .ends, c .before .before .loop-test .taken)
+    omega (arith, turn-of t c .before .loop .inv .0 .open-slots .listed .ends, turn-of t c .loop-test .taken)
 
 walk-from-mul-w : (t : ℕ)
     → walk-from-lts.Need-mul-w (calls t) (walk-from-at t) walk-from.Post walk-from-Inv-loop walk-from-μ-loop
-walk-from-mul-w t c =
-    let at = passed t (entered t (within t c)) in
-    omega (
-      arith,
-      c .at16 .ensures,
-      at .before .before .before .before .before .shared-slice-known2 .given
-          (c .before .before .before .before .loop .k),
-    )
+walk-from-mul-w t c = omega (arith, turning t c .low, called-with t c .good)
 
 walk-from-shared-slice-read-w : (t : ℕ)
     → walk-from-lts.Need-shared-slice-read-w (calls t) (walk-from-at t) walk-from.Post walk-from-Inv-loop walk-from-μ-loop
@@ -274,36 +422,36 @@ walk-from-keep-word-requires : (t : ℕ)
     → walk-from-lts.Need-keep-word-requires (calls t) (walk-from-at t) walk-from.Post walk-from-Inv-loop walk-from-μ-loop
 walk-from-keep-word-requires t c κs =
     let at = c .before .before in
-    omega (arith, inside t (passed t (entered t (within t at))), turning t at .held .firsts, ready t (called-with t at) .firsts-all)
+    let inv = at-turn t at .before .loop .inv .0 in
+    omega (arith, inv .inside, turning t at .held .firsts, ready t (called-with t at) .firsts-all)
 
 walk-from-placed-at-requires : (t : ℕ)
     → walk-from-lts.Need-placed-at-requires (calls t) (walk-from-at t) walk-from.Post walk-from-Inv-loop walk-from-μ-loop
 walk-from-placed-at-requires t c κs =
-    let at = found t (c .before .before) in (
-      inside t (passed t (entered t (within t at))),
-      omega
-          (arith, room t at, called-with t at .fits .budget),
-      at .before .before .before .before .loop .inv .going,
-    )
+    let at = found t (c .before .before) in
+    let inv = at-turn t at .before .loop .inv .0 in
+    (inv .inside, omega (arith, room t at, called-with t at .fits .budget), inv .going)
 
 walk-from-add-walk-from : (t : ℕ)
     → walk-from-lts.Need-add-walk-from (calls t) (walk-from-at t) walk-from.Post walk-from-Inv-loop walk-from-μ-loop
 walk-from-add-walk-from t c =
-    let at = found t (kept t (c .before .before)) in
-    omega (arith, inside t (passed t (entered t (within t at))), called-with t at .good)
+    let at = found t (kept t (c .before .before .before)) in
+    omega (arith, at-turn t at .before .loop .inv .0 .inside, called-with t at .good)
 
 walk-from-walk-from-requires : (t : ℕ)
     → walk-from-lts.Need-walk-from-requires (calls t) (walk-from-at t) walk-from.Post walk-from-Inv-loop walk-from-μ-loop
 walk-from-walk-from-requires t c κs =
-    let counts = c .before .before in
+    let counts = c .before .before .before in
     let keeps = kept t counts in
     let at = found t keeps in
-    let card = ready t (called-with t at) in
-    let inv = at .before .before .before .before .loop .inv in (
-      omega (arith, called-with t at .pre .0, inv .inside),
-      ready-below card (turning t at .held) (inv .inside) (turning t at .low) (turning t at .free) (inv .going) (room t at)
-          (keeps .keep-word .ensures)
-          (counts .placed-at .ensures) (turning t at .alone),
+    let e = turning t at in
+    let inv = at-turn t at .before .loop .inv in (
+      omega (arith, called-with t at .pre .0, inv .0 .inside),
+      (
+        ready-below (ready t (called-with t at)) (e .held) (inv .0 .inside) (e .low) (e .free) (inv .0 .going) (room t at)
+            (keeps .keep-word .ensures) (counts .placed-at .ensures) (e .alone) (e .here),
+        inv .1,
+      ),
     )
 
 walk-from-slice-write-marks-2 : (t : ℕ)
@@ -311,65 +459,78 @@ walk-from-slice-write-marks-2 : (t : ℕ)
 walk-from-slice-write-marks-2 t c =
     let at = called t c in
     let e = turning t (tries-it t at) in
-    let inv = tries-it t at .before .before .before .before .loop .inv in
-    still-marked (ready t (asked t at)) (e .held) (inv .inside) (e .low) (e .free) (inv .going) (room t (tries-it t at))
-    (keeps t at .keep-word .ensures) (counts t at .placed-at .ensures) (at .walk-from .ensures)
+    let inv = at-turn t (tries-it t at) .before .loop .inv .0 in
+    still-marked (ready t (walked-with t at)) (e .held) (inv .inside) (e .low) (e .free) (inv .going) (room t (tries-it t at))
+    (keeps t at .keep-word .ensures) (counts t at .placed-at .ensures) (at .walk-from .ensures .0)
 
-walk-from-same-length-3 : (t : ℕ)
-    → walk-from-lts.Need-same-length-3 (calls t) (walk-from-at t) walk-from.Post walk-from-Inv-loop walk-from-μ-loop
-walk-from-same-length-3 t c = kept-all t (called t (c .before .before)) _
+walk-from-same-length-5 : (t : ℕ)
+    → walk-from-lts.Need-same-length-5 (calls t) (walk-from-at t) walk-from.Post walk-from-Inv-loop walk-from-μ-loop
+walk-from-same-length-5 t c = kept-all t (called t (c .before .before)) _
 
-walk-from-same-length-4 : (t : ℕ)
-    → walk-from-lts.Need-same-length-4 (calls t) (walk-from-at t) walk-from.Post walk-from-Inv-loop walk-from-μ-loop
-walk-from-same-length-4 t c = turned t (called t (c .before .before)) .firsts
+walk-from-same-length-6 : (t : ℕ)
+    → walk-from-lts.Need-same-length-6 (calls t) (walk-from-at t) walk-from.Post walk-from-Inv-loop walk-from-μ-loop
+walk-from-same-length-6 t c = turned t (called t (c .before .before)) .firsts
 
-walk-from-returns-3 : (t : ℕ)
-    → walk-from-lts.Need-returns-3 (calls t) (walk-from-at t) walk-from.Post walk-from-Inv-loop walk-from-μ-loop
-walk-from-returns-3 t c = held-over (turned t (called t (c .before .before))) (c .if3 .taken)
+walk-from-returns-5 : (t : ℕ)
+    → walk-from-lts.Need-returns-5 (calls t) (walk-from-at t) walk-from.Post walk-from-Inv-loop walk-from-μ-loop
+walk-from-returns-5 t c =
+    let at = called t (c .before .before) in
+    (held-over (turned t at) (c .if5 .taken), at .walk-from .ensures .1)
 
 walk-from-add-next : (t : ℕ)
     → walk-from-lts.Need-add-next (calls t) (walk-from-at t) walk-from.Post walk-from-Inv-loop walk-from-μ-loop
 walk-from-add-next t c =
     let at = tries-it t (called t (c .before .before .before)) in
-    let inv = at .before .before .before .before .loop .inv in
-    omega (arith, at .before .before .before .loop-test .taken, inv .open-slots .listed .ends, called-with t at .good)
+    let inv = at-turn t at .before .loop .inv .0 in
+    omega (arith, at-turn t at .loop-test .taken, inv .open-slots .listed .ends, called-with t at .good)
 
 walk-from-next-requires-2 : (t : ℕ)
     → walk-from-lts.Need-next-requires-2 (calls t) (walk-from-at t) walk-from.Post walk-from-Inv-loop walk-from-μ-loop
 walk-from-next-requires-2 t c κs =
     let at = called t (c .before .before .before) in
-    let inv = tries-it t at .before .before .before .before .loop .inv in
-    (listed-on (inv .open-slots .listed), kept-all t at _ ∙ ready t (asked t at) .marks-all)
+    let inv = at-turn t (tries-it t at) .before .loop .inv .0 in
+    (listed-on (inv .open-slots .listed), kept-all t at _ ∙ ready t (walked-with t at) .marks-all)
 
 walk-from-loop-less : (t : ℕ)
     → walk-from-lts.Need-loop-less (calls t) (walk-from-at t) walk-from.Post walk-from-Inv-loop walk-from-μ-loop
 walk-from-loop-less t c =
     let at = tries-it t (called t (c .before .before .before .before)) in
-    omega (arith, c .next2 .ensures .on, at .before .before .before .loop-test .taken)
+    omega (arith, c .next2 .ensures .on, at-turn t at .loop-test .taken)
 
 walk-from-loop-again : (t : ℕ)
     → walk-from-lts.Need-loop-again (calls t) (walk-from-at t) walk-from.Post walk-from-Inv-loop walk-from-μ-loop
 walk-from-loop-again t c =
     let at = called t (c .before .before .before .before) in
-    let inv = tries-it t at .before .before .before .before .loop .inv in
-    record {
-      held = held-next (turned t at) (c .next2 .ensures);
-      open-slots = open-next (inv .open-slots) (turned t at .unmarked) (c .next2 .ensures);
-      going = omega (arith, c .before .before .if3 .left);
-      inside = inv .inside;
-    }
+    let inv = at-turn t (tries-it t at) .before .loop .inv .0 in (
+      record {
+        held = held-next (turned t at) (c .next2 .ensures);
+        open-slots = open-next (inv .open-slots) (turned t at .unmarked) (c .next2 .ensures);
+        going = omega (arith, c .before .before .if5 .left);
+        inside = inv .inside;
+      },
+      at .walk-from .ensures .1,
+    )
 
-walk-from-same-length-5 : (t : ℕ)
-    → walk-from-lts.Need-same-length-5 (calls t) (walk-from-at t) walk-from.Post walk-from-Inv-loop walk-from-μ-loop
-walk-from-same-length-5 t c = ap length (c .before .loop .inv .held .unmarked)
+walk-from-remember-requires : (t : ℕ)
+    → walk-from-lts.Need-remember-requires (calls t) (walk-from-at t) walk-from.Post walk-from-Inv-loop walk-from-μ-loop
+walk-from-remember-requires t c κs = let inv = c .before .before .loop .inv in (inv .0 .held .grows, inv .1 .all)
 
-walk-from-same-length-6 : (t : ℕ)
-    → walk-from-lts.Need-same-length-6 (calls t) (walk-from-at t) walk-from.Post walk-from-Inv-loop walk-from-μ-loop
-walk-from-same-length-6 t c = c .before .loop .inv .held .firsts
+walk-from-same-length-7 : (t : ℕ)
+    → walk-from-lts.Need-same-length-7 (calls t) (walk-from-at t) walk-from.Post walk-from-Inv-loop walk-from-μ-loop
+walk-from-same-length-7 t c = ap length (c .before .before .before .loop .inv .0 .held .unmarked)
 
-walk-from-returns-4 : (t : ℕ)
-    → walk-from-lts.Need-returns-4 (calls t) (walk-from-at t) walk-from.Post walk-from-Inv-loop walk-from-μ-loop
-walk-from-returns-4 t c = held-end (c .before .loop .inv .held) (ahead-none _ _ _ _ _ (c .loop-test .left))
+walk-from-same-length-8 : (t : ℕ)
+    → walk-from-lts.Need-same-length-8 (calls t) (walk-from-at t) walk-from.Post walk-from-Inv-loop walk-from-μ-loop
+walk-from-same-length-8 t c = c .before .before .before .loop .inv .0 .held .firsts
+
+walk-from-returns-6 : (t : ℕ)
+    → walk-from-lts.Need-returns-6 (calls t) (walk-from-at t) walk-from.Post walk-from-Inv-loop walk-from-μ-loop
+walk-from-returns-6 t c =
+    let left = c .before .before in
+    let inv = left .before .loop .inv in
+    let state = told t (ran-from t left) in
+    let went = held-end (inv .0 .held) (ahead-none _ _ _ _ _ (left .loop-test .left)) in
+    (went, recalls-stored (ready t (keyed-with t state)) (inv .0 .inside) (inv .1) (keyed t state) went (c .remember .ensures))
 
 pub +walk-from-spec : {M : Type 1} → statement M
 +walk-from-spec = close μ-walk-from λ t. walk-from-lts.spec (calls t)
@@ -383,10 +544,21 @@ pub +walk-from-spec : {M : Type 1} → statement M
     (walk-from-start-of-requires-2 t)
     (walk-from-due-requires t)
     (walk-from-next-requires t)
-    (walk-from-loop-holds t)
     (walk-from-same-length t)
-    (walk-from-same-length-2 t)
     (walk-from-returns-2 t)
+    (walk-from-mul-key-of t)
+    (walk-from-sub-key-of t)
+    (walk-from-part-key-of-start t)
+    (walk-from-part-key-of-end t)
+    (walk-from-key-of-requires t)
+    (walk-from-recall-requires t)
+    (walk-from-skipped-requires t)
+    (walk-from-same-length-2 t)
+    (walk-from-returns-3 t)
+    (walk-from-loop-holds t)
+    (walk-from-same-length-3 t)
+    (walk-from-same-length-4 t)
+    (walk-from-returns-4 t)
     (walk-from-at16-requires t)
     (walk-from-mul-w t)
     (walk-from-shared-slice-read-w t)
@@ -396,13 +568,14 @@ pub +walk-from-spec : {M : Type 1} → statement M
     (walk-from-add-walk-from t)
     (walk-from-walk-from-requires t)
     (walk-from-slice-write-marks-2 t)
-    (walk-from-same-length-3 t)
-    (walk-from-same-length-4 t)
-    (walk-from-returns-3 t)
+    (walk-from-same-length-5 t)
+    (walk-from-same-length-6 t)
+    (walk-from-returns-5 t)
     (walk-from-add-next t)
     (walk-from-next-requires-2 t)
     (walk-from-loop-less t)
     (walk-from-loop-again t)
-    (walk-from-same-length-5 t)
-    (walk-from-same-length-6 t)
-    (walk-from-returns-4 t)
+    (walk-from-remember-requires t)
+    (walk-from-same-length-7 t)
+    (walk-from-same-length-8 t)
+    (walk-from-returns-6 t)

@@ -6,6 +6,8 @@ use lib.ListN.{length}
 use lib.Seq.{length-take-le, take-at}
 use borrow.Author.Needs.{needs}
 use Rattle.sequence.proofs.LetterLaws.{pow-pos}
+use Rattle.memory.proofs.SlotLaws.{nothing-known}
+use Rattle.walk.proofs.RecallLaws.{recalls-none}
 use Rattle.walk.proofs.WholeLaws.{unmarked-first, ready-first, whole-walk}
 use Rattle.walk.proofs.walk.Statement.{statement}
 use Rattle.walk.proofs.walk.Tie as tie
@@ -24,8 +26,11 @@ filled c = c .before .before .before .before .before .before .before .before .be
 abbrev cleared : tie.After-words-of → tie.After-unmark
 cleared c = c .before .before .before
 
-abbrev masked : tie.After-walk-from → tie.After-words-of
-masked c = c .before .before .before .before .before
+abbrev masked : tie.After-nothing → tie.After-words-of
+masked c = c .before
+
+abbrev empty : tie.After-walk-from-arg4 → tie.After-nothing
+empty c = c .before .before .before .before
 
 -- the mask has a one for each digit of a word's last letters
 masks : (c : tie.After-words-of) → c .words-of .result - 1 + 1 ≡ 4 ^ (start (filled (cleared c)) .args .l - 1)
@@ -57,24 +62,31 @@ words-of-requires c κs = search needs
 sub-mask : tie.Need-sub-mask
 sub-mask c = omega (arith, c .words-of .ensures, pow-pos (start (filled (cleared c)) .args .l - 1))
 
+nothing-requires : tie.Need-nothing-requires
+nothing-requires c κs = search needs
+
 slice-relend-prefix-walk-from : tie.Need-slice-relend-prefix-walk-from
-slice-relend-prefix-walk-from c = marks-room (c .before .before)
+slice-relend-prefix-walk-from c = marks-room (masked (c .before .before))
 
 slice-aggregate-walk-from : tie.Need-slice-aggregate-walk-from
-slice-aggregate-walk-from c = sym (length-take-le _ _ (marks-room (c .before .before .before)))
+slice-aggregate-walk-from c = sym (length-take-le _ _ (marks-room (masked (c .before .before .before))))
 
 slice-relend-prefix-walk-from-2 : tie.Need-slice-relend-prefix-walk-from-2
-slice-relend-prefix-walk-from-2 c = first-room (c .before .before .before)
+slice-relend-prefix-walk-from-2 c = first-room (masked (c .before .before .before))
 
 slice-aggregate-walk-from-2 : tie.Need-slice-aggregate-walk-from-2
-slice-aggregate-walk-from-2 c = sym (length-take-le _ _ (first-room (c .before .before .before .before)))
+slice-aggregate-walk-from-2 c = sym (length-take-le _ _ (first-room (masked (empty c))))
 
 walk-from-requires : tie.Need-walk-from-requires
 walk-from-requires c κs =
-    let masking = c .before .before .before .before in
-    let clear = cleared masking in
-    ready-first (at-start masking .pre .0) (filled clear .prepare .ensures) (unmarked-first _ (clear .unmark .ensures) (marks-room masking))
-    (length-take-le _ _ (marks-room masking)) _ (length-take-le _ _ (first-room masking))
+    let none = empty (c .before) in
+    let masking = masked none in
+    let clear = cleared masking in (
+      ready-first (at-start masking .pre .0) (filled clear .prepare .ensures)
+          (unmarked-first _ (clear .unmark .ensures) (marks-room masking)) (length-take-le _ _ (marks-room masking)) _
+          (length-take-le _ _ (first-room masking)),
+      recalls-none _ _ _ _ _ (sym (none .nothing .ensures .0)) (nothing-known (none .nothing .ensures .1)),
+    )
 
 outcome-of-requires : tie.Need-outcome-of-requires
 outcome-of-requires c κs = search needs
@@ -103,12 +115,12 @@ same-length-7 c = search needs
 returns : tie.Need-returns
 returns c =
     let went = c .before .before .before .before .before in
-    let masking = masked went in
+    let masking = masked (empty (went .before .before)) in
     let clear = cleared masking in
-    let all = went .walk-from .ensures .firsts ∙ length-take-le _ _ (first-room masking) in
+    let all = went .walk-from .ensures .0 .firsts ∙ length-take-le _ _ (first-room masking) in
     rw (c .outcome-of .ensures, take-at (went .walk-from .last .1 .1 .1 .1 .1 .0) _ _ all)
     (whole-walk (at-start masking .pre .0) (filled clear .prepare .ensures) (unmarked-first _ (clear .unmark .ensures) (marks-room masking))
-    (length-take-le _ _ (marks-room masking)) (masks masking) (went .walk-from .ensures))
+    (length-take-le _ _ (marks-room masking)) (masks masking) (went .walk-from .ensures .0))
 
 pub walk-spec : {M : Type 1} → statement M
 walk-spec =
@@ -119,6 +131,7 @@ walk-spec =
     sub-words-of
     words-of-requires
     sub-mask
+    nothing-requires
     slice-relend-prefix-walk-from
     slice-aggregate-walk-from
     slice-relend-prefix-walk-from-2
