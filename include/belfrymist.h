@@ -41,8 +41,8 @@ enum {
 };
 
 /* Bytes of stack that a call of belfrymist_build takes at most, and any other call: measured on x86-64 over the samples and the largest
- * cards of both kinds, and not proved. Building takes about 39,000 bytes, and on a span card 288 more for each entry that it places. */
-enum { BELFRYMIST_STACK = 184320, BELFRYMIST_STACK_READING = 512 };
+ * cards of both kinds, and not proved. Building takes about 48,000 bytes, and on a span card 304 more for each entry that it places. */
+enum { BELFRYMIST_STACK = 204800, BELFRYMIST_STACK_READING = 512 };
 
 /* The kinds of card. */
 enum { BELFRYMIST_PAIR = 1, BELFRYMIST_SPAN = 2 };

@@ -1,11 +1,12 @@
 //! The answers of `second`, put as the compiled library puts them.
 
 use second::block;
-use second::build;
+use second::build::{self, Built};
 use second::entry::{Entry, Places};
 use second::reader::{self, Head};
 use second::refusal::Refusal;
 use second::verdict::Verdict;
+use second::walk::counted::Counted;
 use second::writer;
 
 use crate::answers::{Admitted, BuildAnswer, EntryAnswer, Held, Part, StepAnswer, WriteAnswer};
@@ -130,7 +131,17 @@ pub fn write(
 
 /// Builds from the card with this budget.
 pub fn build(card: &[u8], budget: u32, out: &mut [u8]) -> BuildAnswer {
-    match build::build(card, budget, out) {
+    built(build::build(card, budget, out))
+}
+
+/// Builds from a span card whose walk was counted, with this budget.
+pub fn build_counted(card: &[u8], walk: &Counted, budget: u32, out: &mut [u8]) -> BuildAnswer {
+    built(build::build_by(card, out, |_, _| walk.within(budget)))
+}
+
+/// What a build answers.
+fn built(answer: Result<Built, Refusal>) -> BuildAnswer {
+    match answer {
         Ok(built) => BuildAnswer {
             verdict: verdict_number(built.verdict),
             length: built.length,

@@ -128,7 +128,8 @@ impl<'a> Sound<'a> {
 mod tests {
     use super::*;
     use second::cards::Random;
-    use second::spans::{any_spans, misread, sequence, widest, words_in};
+    use second::spans::{any_long, any_spans, misread, sequence, widest, words_in};
+    use second::walk::counted::Counted;
 
     /// Holds the C walk to the answer and the words of `second`, and gives the placements.
     fn hold(lists: &Lists, budget: u32) -> u32 {
@@ -182,6 +183,32 @@ mod tests {
             };
             let lists = widest(&mut random, l, &words);
             hold(&lists, 3000);
+        }
+    }
+
+    #[test]
+    fn long_walks_as_they_are_counted() {
+        let mut random = Random::new(4);
+        for _ in 0..60 {
+            let lists = any_long(&mut random);
+            let (profile, entries) = lists.admitted().expect("sound lists");
+            let walk = Counted::new(profile.l, &entries);
+            let own = walk.placements().unwrap_or(u32::MAX);
+            for budget in [own, own.saturating_sub(1), 1_000_000].map(|n| n.min(3_000_000)) {
+                let found = walk.within(budget);
+                let mut out = vec![7; lists.words.len()];
+                let by_c = Sound::new(&lists)
+                    .expect("sound lists")
+                    .walk(budget, &mut out);
+                assert_eq!(
+                    by_c,
+                    (found.verdict, found.placements),
+                    "{budget} {lists:?}"
+                );
+                if !found.words.is_empty() {
+                    assert_eq!(out, found.words, "{lists:?}");
+                }
+            }
         }
     }
 

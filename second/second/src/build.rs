@@ -28,10 +28,19 @@ pub struct Built {
 /// answers touch none. On a pair card placements are 0, and the budget does
 /// not matter.
 pub fn build(card: &[u8], budget: u32, out: &mut [u8]) -> Result<Built, Refusal> {
+    build_by(card, out, |profile, entries| find(profile, entries, budget))
+}
+
+/// Builds from the card, where its builds are found in this way.
+pub fn build_by(
+    card: &[u8],
+    out: &mut [u8],
+    find: impl FnOnce(&Profile, &[Entry]) -> Found,
+) -> Result<Built, Refusal> {
     let (profile, entries) = reader::entries(card)?;
     let room = out.get_mut(..profile.build_length());
     let room = room.ok_or(Reason::Room.at(0))?;
-    let found = find(&profile, &entries, budget);
+    let found = find(&profile, &entries);
     let length = match found.verdict {
         Verdict::Sole | Verdict::Several => {
             room.copy_from_slice(&spell(profile.l, &found.words));

@@ -25,6 +25,7 @@
 //! * [`lists`]: sound and damaged lists for tests, drawn from a seed;
 //! * [`spans`]: span lists for tests of the walk, drawn from a seed;
 //! * [`pair_lists`]: pair lists for tests of their verdict, drawn from a seed;
+//! * [`late`]: span lists with one build after a long walk, changed step by step;
 //! * [`for_builds`]: lists of either kind, rooms and budgets, drawn from a seed.
 
 pub mod arrangements;
@@ -37,6 +38,7 @@ pub mod entry;
 mod examples;
 pub mod for_builds;
 pub mod given;
+pub mod late;
 pub mod letters;
 pub mod lists;
 pub mod numbers;

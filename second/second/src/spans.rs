@@ -97,6 +97,36 @@ pub fn without_end(random: &mut Random, l: usize, m: usize) -> Lists {
     widest(random, l, &words)
 }
 
+/// Lists of few different words in the widest spans, of which many have a walk that is long.
+pub fn any_long(random: &mut Random) -> Lists {
+    let l = random.between(2, 4);
+    let m = random.between(20, usize::from(MOST_ENTRIES));
+    match random.below(4) {
+        0 => without_end(random, l, m),
+        1 => crowded(random),
+        turn => {
+            let words = match turn {
+                2 => misread(random, l, m, 2),
+                _ => words_in(&sequence(random, l, m, 2), l),
+            };
+            widest(random, l, &words)
+        }
+    }
+}
+
+/// Lists of which the last entries share one span that is too short for them, so that its places have long lists.
+fn crowded(random: &mut Random) -> Lists {
+    let l = random.between(2, 3);
+    let (chain, lump) = (random.between(2, 24), random.between(9, 24));
+    let words = words_in(&sequence(random, l, chain + lump, 3), l);
+    let mut lists = around(random, l, &words, 8, 8);
+    for entry in chain..chain + lump {
+        (lists.ones[entry], lists.twos[entry]) = (chain as u16, chain as u16 + 7);
+    }
+    shuffle(random, &mut lists);
+    lists
+}
+
 /// Any sound lists: most have a build, most are of few entries, and some take many placements.
 pub fn any_spans(random: &mut Random) -> Lists {
     match random.below(4) {

@@ -3,6 +3,8 @@
 //! Every entry is looked at for every place that the walk comes to. Nothing is
 //! sorted or kept beforehand, so that the rule can be read off.
 
+pub mod counted;
+
 use crate::entry::Entry;
 use crate::verdict::{Found, Verdict};
 
@@ -87,9 +89,14 @@ impl Walk<'_> {
             return Err(Stop::Budget);
         }
         self.placements += 1;
+        self.put(entry);
+        Ok(())
+    }
+
+    /// Puts an entry at the next place.
+    fn put(&mut self, entry: usize) {
         self.used[entry] = true;
         self.row.push(self.entries[entry].word);
-        Ok(())
     }
 
     /// Takes back the entry that was placed last.

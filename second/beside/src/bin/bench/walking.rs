@@ -8,62 +8,76 @@ use beside::{firmware, independent};
 use second::cards::Random;
 use second::letters::spell;
 use second::lists::Lists;
-use second::spans::{misread, widest};
+use second::spans::{any_long, misread, sequence, widest, words_in};
 use second::verdict::Verdict;
+use second::walk::counted::Counted;
 
 use crate::timing::{Beside, Operation, ROUNDS};
 
-/// The entries of each card.
+/// The most entries of a card.
 const M: usize = 504;
-/// The letters that the sequences are made of; few of them make many equal words.
+/// The letters that the sequences of long walks are made of; few of them make many equal words.
 const LETTERS: usize = 2;
-/// The budget of each long walk that is timed, which does not settle it.
-const BUDGET: u32 = 5_000_000;
-/// The budget of the walks that `second` is asked to agree with.
-const AGREED: u32 = 50_000;
-/// The hard cards for each number of letters.
-const CARDS: usize = 2;
+/// The budget of the program `build`.
+const BUDGET: u32 = 1_000_000;
+/// A budget that C would take minutes for.
+const LARGE: u32 = 4_000_000_000;
 /// The rounds that each side takes on a long walk.
 const LONG_ROUNDS: usize = 31;
 
-/// A span card, what it lists, and the budget that it is walked with.
+/// A span card, what it lists, and the budgets that the library and C walk it with.
 pub struct Sample {
+    name: String,
     card: Vec<u8>,
     lists: Lists,
     budget: u32,
+    budget_of_c: u32,
+    rounds: usize,
 }
 
-/// Hard cards of words of 2, 3 and 4 letters, and cards whose walk is only prepared.
+/// Cards whose walk is only prepared, is easy, settles late, or does not settle.
 pub fn samples(random: &mut Random) -> Vec<Sample> {
     let mut samples = Vec::new();
-    for l in [2, 3, 4] {
-        for _ in 0..CARDS {
-            samples.push(Sample::new(hard_card(random, l), BUDGET));
+    for (l, letters) in [(2, LETTERS), (12, 4)] {
+        let words = misread(random, l, M, letters);
+        let lists = widest(random, l, &words);
+        samples.push(Sample::new("only prepared", lists, 0));
+    }
+    for (l, m) in [(12, 60), (6, 120), (4, 252), (4, M), (6, M), (12, M)] {
+        let words = words_in(&sequence(random, l, m, 4), l);
+        let lists = widest(random, l, &words);
+        samples.push(Sample::new("easy", lists, BUDGET));
+    }
+    for (from, to) in [(10_000, 100_000), (100_000, BUDGET)] {
+        for _ in 0..2 {
+            let settles_late = |own: Option<u32>| own.is_some_and(|own| (from..to).contains(&own));
+            let lists = long(random, settles_late);
+            samples.push(Sample::new("late", lists, BUDGET).long());
         }
     }
-    for (l, letters) in [(2, LETTERS), (12, 4)] {
-        samples.push(Sample::new(card(random, l, letters), 0));
+    for _ in 0..3 {
+        let lists = long(random, |own| own.is_none());
+        let large = Sample::new("unsettled, C to 1000000", lists.clone(), LARGE);
+        samples.push(Sample::new("unsettled", lists, BUDGET).long());
+        samples.push(large.long());
     }
     samples
 }
 
-/// Lists of words of l letters in the widest spans, for sequences of this many different letters.
-///
-/// One word is misread, so that the walk has much to try before it finds no build.
-fn card(random: &mut Random, l: usize, letters: usize) -> Lists {
-    let words = misread(random, l, M, letters);
-    widest(random, l, &words)
-}
-
-/// Draws cards until one is not settled by the budget.
-fn hard_card(random: &mut Random, l: usize) -> Lists {
+/// Draws lists until the placements of their walk are as wanted; there are none where no budget is as large.
+fn long(random: &mut Random, wanted: impl Fn(Option<u32>) -> bool) -> Lists {
     loop {
-        let lists = card(random, l, LETTERS);
-        let (verdict, _) = sound(&lists).walk(BUDGET, &mut [0; M]);
-        if verdict == Verdict::Unsettled {
+        let lists = any_long(random);
+        if wanted(counted(&lists).placements()) {
             return lists;
         }
     }
+}
+
+/// The walk over the lists, counted.
+fn counted(lists: &Lists) -> Counted {
+    let (profile, entries) = lists.admitted().expect("lists that are drawn sound");
+    Counted::new(profile.l, &entries)
 }
 
 /// The lists as the C code takes them.
@@ -72,22 +86,32 @@ fn sound(lists: &Lists) -> Sound<'_> {
 }
 
 impl Sample {
-    /// The card of these lists, to be walked with this budget.
-    fn new(lists: Lists, budget: u32) -> Sample {
-        let card = lists.card().expect("lists that are drawn sound");
+    /// The card of these lists, to be walked with this budget, by C with no more than `BUDGET`.
+    fn new(what: &str, lists: Lists, budget: u32) -> Sample {
+        let (l, m) = (lists.l, lists.words.len());
         Sample {
-            card,
+            name: format!("walk, l = {l}, m = {m}, {what}"),
+            card: lists.card().expect("lists that are drawn sound"),
             lists,
             budget,
+            budget_of_c: budget.min(BUDGET),
+            rounds: ROUNDS,
         }
     }
 
-    /// Says whether the library answers as C does with the whole budget, and as `second` with a part.
+    /// The same, to be walked fewer times.
+    fn long(mut self) -> Sample {
+        self.rounds = LONG_ROUNDS;
+        self
+    }
+
+    /// Says whether the library answers as C does, and as `second` counts with the whole budget.
     fn is_agreed_on(&self) -> bool {
-        let part = self.budget.min(AGREED);
+        let walk = counted(&self.lists);
         let mut out = vec![0; self.lists.build_length()];
-        let second = independent::build(&self.card, part, &mut out);
-        self.by_library(part) == (second, out) && self.by_library(self.budget) == self.by_c()
+        let second = independent::build_counted(&self.card, &walk, self.budget, &mut out);
+        self.by_library(self.budget) == (second, out)
+            && self.by_library(self.budget_of_c) == self.by_c()
     }
 
     /// What the library answers with this budget, and the output after it.
@@ -97,10 +121,10 @@ impl Sample {
         (answer, out)
     }
 
-    /// What C answers with the whole budget, put as the library puts it.
+    /// What C answers with its budget, put as the library puts it.
     fn by_c(&self) -> (BuildAnswer, Vec<u8>) {
-        let mut words = [0; M];
-        let (verdict, placements) = sound(&self.lists).walk(self.budget, &mut words);
+        let mut words = vec![0; self.lists.words.len()];
+        let (verdict, placements) = sound(&self.lists).walk(self.budget_of_c, &mut words);
         let mut out = vec![0; self.lists.build_length()];
         let (number, length) = match verdict {
             Verdict::Sole => (1, out.len()),
@@ -121,17 +145,14 @@ impl Sample {
 
     /// Building from the card, and walking over the lists in C.
     fn operation(&self) -> Operation<'_> {
-        let (what, rounds) = match self.budget {
-            0 => ("only prepared".to_string(), ROUNDS),
-            budget => (format!("{budget} placements"), LONG_ROUNDS),
-        };
         let (card, budget, sound) = (&self.card, self.budget, sound(&self.lists));
+        let budget_of_c = self.budget_of_c;
         let mut for_library = vec![0; self.lists.build_length()];
         let mut for_c = [0; M];
         Operation {
-            name: format!("walk, l = {}, m = {M}, {what}", self.lists.l),
+            name: self.name.clone(),
             beside: Beside::C,
-            rounds,
+            rounds: self.rounds,
             calls: 1,
             library: Box::new(move || {
                 let out = black_box(&mut for_library);
@@ -139,7 +160,7 @@ impl Sample {
             }),
             other: Box::new(move || {
                 let out = black_box(&mut for_c);
-                _ = black_box(black_box(sound).walk(budget, out));
+                _ = black_box(black_box(sound).walk(budget_of_c, out));
             }),
         }
     }

@@ -1,11 +1,14 @@
 //! Calls that build from a card.
 
+use beside::answers::BuildAnswer;
 use beside::{firmware, independent};
 use second::build::find;
 use second::cards::Random;
 use second::for_builds::any_room;
+use second::lists::Lists;
 use second::reader;
 use second::verdict::{Found, Verdict};
+use second::walk::counted::Counted;
 
 use crate::lent::Lent;
 use crate::{card_changed, difference, hex, output_differs, Soak};
@@ -19,7 +22,22 @@ impl Soak {
     /// Makes the building calls on this card.
     pub fn build(&mut self, random: &mut Random, card: &Lent<u8>) -> Result<(), String> {
         for (budget, room) in calls(random, card.elements()) {
-            self.build_once(random, card, budget, room)?;
+            self.build_once(random, card, budget, room, independent::build)?;
+        }
+        Ok(())
+    }
+
+    /// Makes building calls on the card of span lists whose walk may be long: `second` counts it instead.
+    pub fn build_long(&mut self, random: &mut Random, lists: &Lists) -> Result<(), String> {
+        let (profile, entries) = lists.admitted().expect("sound lists");
+        let walk = Counted::new(profile.l, &entries);
+        let card = Lent::new(random, &lists.card().expect("sound lists"));
+        for budget in long_budgets(random, &walk) {
+            let room = enough(random, profile.build_length());
+            let counted = |card: &[u8], budget, out: &mut [u8]| {
+                independent::build_counted(card, &walk, budget, out)
+            };
+            self.build_once(random, &card, budget, room, counted)?;
         }
         Ok(())
     }
@@ -31,13 +49,14 @@ impl Soak {
         card: &Lent<u8>,
         budget: u32,
         room: usize,
+        by_second: impl FnOnce(&[u8], u32, &mut [u8]) -> BuildAnswer,
     ) -> Result<(), String> {
         if self.is_done() {
             return Ok(());
         }
         let mut out = Lent::drawn(random, room);
         let library = firmware::build(card.elements(), budget, out.elements_mut());
-        let second = independent::build(card.wanted(), budget, out.wanted_mut());
+        let second = by_second(card.wanted(), budget, out.wanted_mut());
         self.tally.count_build(&second);
         let differs = difference(library, second)
             .or_else(|| output_differs(&out))
@@ -92,6 +111,15 @@ fn budgets(random: &mut Random, own: &Found) -> Vec<u32> {
         1..=LONG => vec![0, n - 1, n, n + 1, less, any],
         _ => vec![n - 1, n, random.pick(&[0, less, n + 1, u32::MAX])],
     }
+}
+
+/// Budgets for a card whose walk was counted: around its own placements, the largest, and any.
+fn long_budgets(random: &mut Random, walk: &Counted) -> Vec<u32> {
+    let mut budgets = vec![1_000_000, 4_000_000_000, u32::MAX, any_number(random)];
+    if let Some(own) = walk.placements() {
+        budgets.extend([own.saturating_sub(1), own, own.saturating_add(1)]);
+    }
+    budgets
 }
 
 /// Any number, of any size.

@@ -17,6 +17,8 @@ use std::fmt::Debug;
 use std::process::ExitCode;
 
 use second::cards::{any_card, Random};
+use second::late::Late;
+use second::spans::any_long;
 
 use inputs::{any_buildable_card, damaged};
 use lent::Lent;
@@ -26,6 +28,10 @@ use tally::Tally;
 const SEED: u64 = 1;
 /// The damaged copies of each sound card.
 const COPIES: usize = 2;
+/// One turn in so many builds from cards whose walk is long.
+const LONG_TURNS: usize = 40;
+/// The steps that lists are changed by before each of these turns.
+const STEPS: usize = 16;
 /// From so many calls on, no answer of a build may be missing.
 const ENOUGH: u64 = 100_000;
 
@@ -33,6 +39,8 @@ const ENOUGH: u64 = 100_000;
 struct Soak {
     wanted: u64,
     tally: Tally,
+    /// Lists with one build after a long walk, which change from turn to turn.
+    late: Late,
 }
 
 impl Soak {
@@ -42,24 +50,37 @@ impl Soak {
     }
 
     /// Makes all wanted calls.
-    fn run(&mut self, seed: u64) -> Result<(), String> {
-        let mut random = Random::new(seed);
-        self.run_beyond_the_index(&mut random)?;
-        self.run_beyond_the_count(&mut random)?;
+    fn run(&mut self, random: &mut Random) -> Result<(), String> {
+        self.run_beyond_the_index(random)?;
+        self.run_beyond_the_count(random)?;
         while !self.is_done() {
-            let sound = any_buildable_card(&mut random);
-            self.on_card(&mut random, &sound)?;
+            let sound = any_buildable_card(random);
+            self.on_card(random, &sound)?;
             for _ in 0..COPIES {
-                let copy = damaged(&mut random, &sound);
-                self.on_card(&mut random, &copy)?;
+                let copy = damaged(random, &sound);
+                self.on_card(random, &copy)?;
             }
             if random.once_in(4) {
-                let card = any_card(&mut random);
-                self.on_card(&mut random, &card)?;
+                let card = any_card(random);
+                self.on_card(random, &card)?;
             }
-            self.write(&mut random)?;
+            self.write(random)?;
+            if random.once_in(LONG_TURNS) {
+                self.walk_long(random)?;
+            }
         }
         Ok(())
+    }
+
+    /// Builds from cards whose walk is mostly long.
+    fn walk_long(&mut self, random: &mut Random) -> Result<(), String> {
+        let long = any_long(random);
+        self.build_long(random, &long)?;
+        for _ in 0..STEPS {
+            self.late.step(random);
+        }
+        let lists = self.late.lists().clone();
+        self.build_long(random, &lists)
     }
 
     /// Makes all calls on this card.
@@ -132,11 +153,13 @@ fn main() -> ExitCode {
         eprintln!("usage: soak COUNT [SEED]");
         return ExitCode::from(2);
     };
+    let mut random = Random::new(seed);
     let mut soak = Soak {
         wanted,
         tally: Tally::default(),
+        late: Late::new(&mut random),
     };
-    if let Err(what) = soak.run(seed) {
+    if let Err(what) = soak.run(&mut random) {
         println!("soak: difference with seed {seed}, {what}");
         return ExitCode::FAILURE;
     }

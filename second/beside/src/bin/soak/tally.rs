@@ -32,6 +32,8 @@ const VERDICTS: [&str; 4] = ["sole", "several", "none", "unsettled"];
 const LAST_REFUSAL: usize = 14;
 /// A build has those up to this one.
 const LAST_OF_BUILD: usize = 12;
+/// A walk of more placements is long.
+const LONG: usize = 10_000;
 
 /// The answers of each operation so far.
 #[derive(Default)]
@@ -45,6 +47,8 @@ pub struct Tally {
     placements: u64,
     /// The most placements of a build that was settled.
     longest: usize,
+    /// The verdicts after long walks, from number 1 on.
+    long: [u64; VERDICTS.len()],
 }
 
 impl Tally {
@@ -68,6 +72,9 @@ impl Tally {
         };
         self.verdicts[verdict] += 1;
         self.placements += answer.placements as u64;
+        if answer.placements > LONG {
+            self.long[verdict] += 1;
+        }
         if VERDICTS[verdict] != "unsettled" {
             self.longest = self.longest.max(answer.placements);
         }
@@ -76,9 +83,10 @@ impl Tally {
     /// An answer of a build that never came, if there is one.
     pub fn missing(&self) -> Option<String> {
         let builds = &self.answers[Operation::Build as usize];
-        let verdict = VERDICTS.iter().zip(self.verdicts).find(|of| of.1 == 0);
+        // Where a verdict came after a long walk, it came.
+        let verdict = VERDICTS.iter().zip(self.long).find(|of| of.1 == 0);
         let refusal = (1..=LAST_OF_BUILD).find(|&number| builds[number] == 0);
-        let verdict = verdict.map(|(name, _)| name.to_string());
+        let verdict = verdict.map(|(name, _)| format!("{name} after a long walk"));
         verdict.or(refusal.map(|number| format!("refused with {number}")))
     }
 
@@ -90,8 +98,9 @@ impl Tally {
             _ = write!(text, "{operation:?} {calls}:");
             match operation {
                 Operation::Build => {
-                    for (name, count) in VERDICTS.iter().zip(self.verdicts) {
-                        _ = write!(text, " {name} {count},");
+                    let counts = self.verdicts.iter().zip(self.long);
+                    for (name, (count, long)) in VERDICTS.iter().zip(counts) {
+                        _ = write!(text, " {name} {count} ({long} long),");
                     }
                     let (all, longest) = (self.placements, self.longest);
                     _ = write!(
