@@ -95,6 +95,34 @@ static void full_pair_card(void)
     length = belfrymist_write(BELFRYMIST_PAIR, 2, words, e, ones, e, twos, e, card, sizeof card).length;
 }
 
+/* A full span card. Its first word can stand at no place but 0, and where its span ends later it is the last to be tried there: all that is
+ * tried before is in vain. From place 15 on all words are equal. */
+static void full_span_card(uint16_t end_of_first)
+{
+    static const uint8_t start[] = {3, 0, 1, 2, 0, 2, 1, 0, 0, 1, 1, 2, 2, 1, 0, 2};
+    size_t e;
+    for (e = 0; e < BELFRYMIST_MOST_ENTRIES; e++) {
+        uint32_t letter = e < sizeof start ? start[e] : 0, next = e + 1 < sizeof start ? start[e + 1] : 0;
+        words[e] = 4 * letter + next;
+        ones[e] = (uint16_t)(e < 8 ? 0 : e - 7);
+        twos[e] = (uint16_t)(e < 8 ? 7 : e);
+    }
+    twos[0] = end_of_first;
+    length = belfrymist_write(BELFRYMIST_SPAN, 2, words, e, ones, e, twos, e, card, sizeof card).length;
+}
+
+static size_t placements(void) { return belfrymist_build(card, length, 1000000, out, sizeof out).placements; }
+
+/* Takes up the card on which the walk has made 256 placements in vain before it goes down, so that it keeps states in memory at every depth. */
+static int take_up_remembered(void)
+{
+    size_t straight;
+    full_span_card(0);
+    straight = placements();
+    full_span_card(7);
+    return placements() >= straight + 256;
+}
+
 int main(int count, char **names)
 {
     int i;
@@ -107,6 +135,9 @@ int main(int count, char **names)
         measure();
     }
     full_pair_card();
+    measure();
+    if (!take_up_remembered())
+        return 3;
     measure();
     printf("stack: at most %zu bytes to build, and %zu for other calls; the header says %d and %d\n", most_building, most_reading,
            BELFRYMIST_STACK, BELFRYMIST_STACK_READING);

@@ -1,11 +1,11 @@
 -- Laws of keys: the marks of few entries are a small number, and equal keys are of equal places, marks and last letters. Assumes nothing.
-use mathlib.Core.Path.{_≡_, refl, sym, _∙_}
+use mathlib.Core.Path.{_≡_, refl, sym, ap, _∙_}
 use mathlib.Core.Logic.{⊎-elim}
 use mathlib.Core.Bool.{Bool, true, false, cond}
 use mathlib.Core.List.{List, [], _∷_, foldl}
-use Prim.Native.Nat.{ℕ, suc, _+_, _*_, _^_, _≤_, _<_}
+use Prim.Native.Nat.{ℕ, _+_, _*_, _/_, _%_, _^_, _≤_, _<_}
 use native.Mathlib.Omega.{arith}
-use native.Mathlib.Nat.{pow-suc}
+use native.Mathlib.Nat.{pow-suc, mul-add-div-right, div-eq-of-lt, mul-add-mod-self-right, mod-eq-of-lt}
 use native.Mathlib.Numerals.{add-one}
 use lib.Pow.{pow-mono}
 use lib.Dec.{eqb}
@@ -13,19 +13,16 @@ use lib.ListN.{length, getD, drop}
 use Rattle.block.proofs.Fold.{fold-turn, fold-end}
 use Rattle.sequence.specs.Lists.{In}
 use Rattle.sequence.proofs.ListLaws.{not-in-nil, in-cons}
-use Rattle.memory.specs.Memory.{fewMarks, markValues, tailValues, markOf, withMark, bitsOf, Bits, KeyOf}
+use Rattle.memory.specs.Memory.{fewMarks, markValues, markOf, withMark, bitsOf, Bits, KeyOf}
 
 -- ---- the marks as digits
 
-mark-small : (marks : List ℕ) (j : ℕ) → markOf marks j ≤ 1
+pub mark-small : (marks : List ℕ) (j : ℕ) → markOf marks j ≤ 1
 mark-small marks j = go (eqb (getD marks j 0) 0)
   where
     go : (b : Bool) → cond b 0 1 ≤ 1
     go true = omega arith
     go false = omega arith
-
-pub bit-small : (marks : List ℕ) (j : ℕ) {r : ℕ} → r ≡ markOf marks j → r ≤ 1
-bit-small marks j e = omega (arith, mark-small marks j)
 
 -- so few marks are not many values
 few-bits : (n bits : ℕ) → n ≤ fewMarks → bits < 2 ^ n → bits < markValues
@@ -79,17 +76,20 @@ bits-same marks marks′ js e = digits-same marks marks′ js 0 0 e .1
 
 -- ---- equal keys
 
-split-tail : (x w x′ w′ : ℕ) → w < tailValues → w′ < tailValues → x * tailValues + w + 1 ≡ x′ * tailValues + w′ + 1 → (x ≡ x′) × (w ≡ w′)
-split-tail x w x′ w′ h h′ e = let same : x ≡ x′ = omega arith in (same, omega arith)
+split : {n : ℕ} (x w x′ w′ : ℕ) → w < n → w′ < n → x * n + w ≡ x′ * n + w′ → (x ≡ x′) × (w ≡ w′)
+split {n} x w x′ w′ h h′ e = (sym (quotient x w h) ∙ ap (λ k. k / n) e ∙ quotient x′ w′ h′, sym (rest x w h) ∙ ap (λ k. k % n) e ∙ rest x′ w′ h′)
+  where
+    quotient : (y v : ℕ) → v < n → (y * n + v) / n ≡ y
+    quotient y v g = let some : 0 < n = omega arith in mul-add-div-right some y v ∙ ap (λ k. y + k) (div-eq-of-lt g) ∙ omega arith
 
-split-marks : (x b x′ b′ : ℕ) → b < markValues → b′ < markValues → x * markValues + b ≡ x′ * markValues + b′ → (x ≡ x′) × (b ≡ b′)
-split-marks x b x′ b′ h h′ e = let same : x ≡ x′ = omega arith in (same, omega arith)
+    rest : (y v : ℕ) → v < n → (y * n + v) % n ≡ v
+    rest y v g = mul-add-mod-self-right y n v ∙ mod-eq-of-lt g
 
 -- what a key tells: the place, the marks in the list of the place, and the last letters
 pub key-tells : {marks js marks′ js′ : List ℕ} {i want i′ want′ key : ℕ} → KeyOf marks js i want key → KeyOf marks′ js′ i′ want′ key
     → (i ≡ i′) × (bitsOf marks js ≡ bitsOf marks′ js′) × (want ≡ want′)
 key-tells {marks} {js} {marks′} {js′} {i} {want} {i′} {want′} k k′ =
-    let tail = split-tail (i * markValues + bitsOf marks js) want (i′ * markValues + bitsOf marks′ js′) want′ (k .low) (k′ .low)
-    (sym (k .made) ∙ k′ .made) in
-    let head = split-marks i (bitsOf marks js) i′ (bitsOf marks′ js′) (k .few) (k′ .few) (tail .0) in
+    let tail = split (i * markValues + bitsOf marks js) want (i′ * markValues + bitsOf marks′ js′) want′ (k .low) (k′ .low)
+    (omega (arith, k .made, k′ .made)) in
+    let head = split i (bitsOf marks js) i′ (bitsOf marks′ js′) (k .few) (k′ .few) (tail .0) in
     (head .0, head .1, tail .1)

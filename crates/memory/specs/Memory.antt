@@ -1,18 +1,17 @@
 -- The memory of the walk: a state that was walked to its end without a build keeps the number of its placements, by a key. It is a list of
--- numbers, of which slot s has two: a key, at 2 s, and a size, at 2 s + 1. That what it says is true, `Recalls`, stands in `walk`.
+-- numbers, of which cell s has two: a key, at 2 s, and a size, at 2 s + 1. That what it says is true, `Recalls`, stands in `walk`.
 --   markOf marks j                == 1 where entry j is placed, 0 where it is left
 --   withMark marks b j            == b, and after it the mark of entry j, as a binary digit
 --   bitsOf marks js               == the marks of the entries js, as binary digits
 --   Below js n                    == the numbers of the list are below n
 --   KeyOf marks js i want key     == `key` is that of the state at the place i, whose list is js, after a word that ends in `want`
---   Told known key size           == a slot has the key, and the size
---   Nothing known                 == no slot has a key
+--   Told known key size           == a cell has the key, and the size
 -- Assumes nothing.
 use mathlib.Core.Path.{_≡_}
 use mathlib.Core.Logic.{_⊎_}
 use mathlib.Core.Bool.{cond}
 use mathlib.Core.List.{List, foldl}
-use Prim.Native.Nat.{ℕ, _+_, _*_, _≤_, _<_}
+use Prim.Native.Nat.{ℕ, _+_, _*_, _<_}
 use lib.Dec.{eqb}
 use lib.ListN.{length, getD}
 use Rattle.sequence.specs.Lists.{In}
@@ -25,9 +24,13 @@ fewMarks = 16
 abbrev pub markValues : ℕ
 markValues = 65536
 
--- the last letters of a word are below it
+-- the last letters of a word are below it,
 abbrev pub tailValues : ℕ
 tailValues = 4294967296
+
+-- and places below this one leave room for all of that in eight bytes
+abbrev pub mostPlaces : ℕ
+mostPlaces = 65535
 
 -- what no size is, as the largest number of eight bytes
 abbrev pub unknown : ℕ
@@ -37,13 +40,13 @@ unknown = 18446744073709551615
 abbrev pub buckets : ℕ
 buckets = 251
 
--- with two slots for each,
-abbrev pub slots : ℕ
-slots = 2 * buckets
+-- with two cells for each,
+abbrev pub cells : ℕ
+cells = 2 * buckets
 
--- and two numbers for each slot
-abbrev pub numbers : ℕ
-numbers = 2 * slots
+-- and two numbers for each cell
+abbrev pub memoryLength : ℕ
+memoryLength = 2 * cells
 
 abbrev pub markOf : List ℕ → ℕ → ℕ
 markOf marks j = cond (eqb (getD marks j 0) 0) 0 1
@@ -67,27 +70,24 @@ pub record KeyOf (marks js : List ℕ) (i want key : ℕ) : Type 0 where
   pub low : want < tailValues
   pub made : key ≡ (i * markValues + bitsOf marks js) * tailValues + want + 1
 
--- what `key_of` promises: a key, or 0 where the state has none
+-- what `key_of` promises: the key, or 0
 pub record Keyed (marks js : List ℕ) (i want r : ℕ) : Type 0 where
-  pub known : 0 < r → KeyOf marks js i want r
+  pub is-key : 0 < r → KeyOf marks js i want r
 
 pub record Told (known : List ℕ) (key size : ℕ) : Type 0 where
   pub some : 0 < key
-  pub slot : ℕ
-  pub inside : slot < slots
-  pub key-is : getD known (2 * slot) 0 ≡ key
-  pub size-is : getD known (2 * slot + 1) 0 ≡ size
+  pub cell : ℕ
+  pub inside : cell < cells
+  pub key-is : getD known (2 * cell) 0 ≡ key
+  pub size-is : getD known (2 * cell + 1) 0 ≡ size
 
--- what `recall` promises: a size that is told, or `unknown`
+-- what `recall` promises: a size that a cell tells, or `unknown`
 pub record Recalled (known : List ℕ) (key r : ℕ) : Type 0 where
   pub told : r < unknown → Told known key r
 
--- what `remember` promises: each slot is as it was, or has the key and the placements, where no build was completed
+-- what `remember` promises: each cell is as it was, or has the key and the placements, where no build was completed
 pub record Stored (known known′ : List ℕ) (key placed state placed′ state′ : ℕ) : Type 0 where
   pub all : length known′ ≡ length known
-  pub each : (s : ℕ) → s < slots
+  pub each : (s : ℕ) → s < cells
       → ((getD known′ (2 * s) 0 ≡ getD known (2 * s) 0) × (getD known′ (2 * s + 1) 0 ≡ getD known (2 * s + 1) 0))
       ⊎ ((state′ ≡ state) × (0 < key) × (getD known′ (2 * s) 0 ≡ key) × (placed + getD known′ (2 * s + 1) 0 ≡ placed′))
-
-pub record Nothing (known : List ℕ) : Type 0 where
-  pub each : (k : ℕ) → getD known k 0 ≡ 0

@@ -1,21 +1,21 @@
 // What the walk remembers: of a state that it walked to its end without a build the number of its placements, by a key that no other state
-// has. The memory is a list of numbers, two for each slot, a key and a size; a key of 0 says nothing, and whatever is stored may be replaced.
+// has. The memory is a list of numbers, two for each cell, a key and a size; a key of 0 says nothing, and whatever is stored may be replaced.
 // The functions are called by the walk alone.
 pub mod tally;
 
 ghost use mathlib.Core.Path.{_≡_};
-ghost use Prim.Native.Nat.{_+_, _*_, _≤_, _<_};
+ghost use Prim.Native.Nat.{_≤_, _<_};
 ghost use lib.ListN.{length, replicate};
-ghost use Rattle.memory.specs.Memory.{fewMarks, buckets, slots, numbers, markOf, Below, Bits, Keyed, Recalled, Stored};
+ghost use Rattle.memory.specs.Memory.{fewMarks, mostPlaces, buckets, cells, memoryLength, markOf, Below, Bits, Keyed, Recalled, Stored};
 use tally::Tally;
 
 // What no size is.
 pub const UNKNOWN: u64 = 18446744073709551615;
-// The buckets of the memory, of two slots each: a prime, so that keys spread.
+// The buckets of the memory, of two cells each: a prime, so that keys spread.
 const BUCKETS: usize = 251;
-// A key and a size for each slot.
-pub const NUMBERS: usize = 4 * BUCKETS;
-// A state has a key only after so many placements that led nowhere: most cards are settled before.
+// A key and a size for each of them.
+pub const LENGTH: usize = 4 * BUCKETS;
+// A state has a key only once so many placements more were made than there are places before it: most cards are settled first.
 const PATIENCE: usize = 256;
 // The marks of so many entries are told in a key,
 const FEW_MARKS: usize = 16;
@@ -23,15 +23,12 @@ const FEW_MARKS: usize = 16;
 const MARK_VALUES: u64 = 65536;
 // The last letters of a word are below it.
 const TAIL_VALUES: u64 = 4294967296;
-// A state at so late a place has no key.
-const MOST_PLACES: usize = 65535;
 
 // A memory that says nothing.
-pub fn nothing() -> [u64; NUMBERS]
-    ensures { λ r. ⌜ numbers ≡ length r ⌝ }
-    ensures { λ r. ⌜ r ≡ replicate numbers 0 ⌝ }
+pub fn nothing() -> [u64; LENGTH]
+    ensures { λ r. ⌜ r ≡ replicate memoryLength 0 ⌝ }
 {
-    [0; NUMBERS]
+    [0; LENGTH]
 }
 
 // 1 where the entry e is placed, 0 where it is left.
@@ -61,14 +58,13 @@ fn bits_of(list: &[u16], marks: &[u8]) -> u64
     bits
 }
 
-// The key of the state at the place i, whose list is lent, after a word whose last letters are `want`; 0 where the state has none.
+// The key of the state at the place i, whose list is lent, after a word whose last letters are `want`; 0 where `placed` is too few
+// placements for one, or the list too long.
 pub fn key_of(list: &[u16], marks: &[u8], i: usize, want: u32, placed: u32) -> u64
     requires { ⌜ Below (now list) (length (now marks)) ⌝ }
+    requires { ⌜ i < mostPlaces ⌝ }
     ensures { λ r. ⌜ Keyed (now (marks .entry)) (now (list .entry)) i want r ⌝ }
 {
-    if i >= MOST_PLACES {
-        return 0;
-    }
     if (placed as usize) < i + PATIENCE {
         return 0;
     }
@@ -87,7 +83,7 @@ fn bucket_of(key: u64) -> usize
 }
 
 // The placements of the state with that key; UNKNOWN where the memory does not say.
-pub fn recall(known: &[u64; NUMBERS], key: u64) -> u64
+pub fn recall(known: &[u64; LENGTH], key: u64) -> u64
     ensures { λ r. ⌜ Recalled (now (known .entry)) key r ⌝ }
 {
     if key == 0 {
@@ -104,10 +100,10 @@ pub fn recall(known: &[u64; NUMBERS], key: u64) -> u64
     UNKNOWN
 }
 
-// The slot for a state of that size: the first of its bucket, unless that has a larger one. So a state that took long to walk is not lost to
-// one that did not.
-fn slot_for(known: &[u64; NUMBERS], key: u64, size: u64) -> usize
-    ensures { λ r. ⌜ r < slots ⌝ }
+// The cell for a state of that size: the first of its bucket, unless a larger one is there. So the largest of a bucket is not lost to a smaller
+// one.
+fn cell_for(known: &[u64; LENGTH], key: u64, size: u64) -> usize
+    ensures { λ r. ⌜ r < cells ⌝ }
 {
     let b = bucket_of(key);
     if known[4 * b + 1] <= size {
@@ -117,20 +113,20 @@ fn slot_for(known: &[u64; NUMBERS], key: u64, size: u64) -> usize
 }
 
 // The state with that key is finished: where it completed no build, its placements are kept.
-pub fn remember(known: &mut [u64; NUMBERS], key: u64, before: Tally, after: Tally)
-    requires { ⌜ (before .placed ≤ after .placed) × (length (now known) ≡ numbers) ⌝ }
+pub fn remember(known: &mut [u64; LENGTH], key: u64, before: Tally, after: Tally)
+    requires { ⌜ (before .placed ≤ after .placed) × (length (now known) ≡ memoryLength) ⌝ }
     ensures { λ _. ⌜
-        Stored (now (known .entry)) (now (known .exit)) key (before .placed) (before .state) (after .placed) (after .state)
+        Stored (now (known .entry)) (now (known .exit)) key (before .placed) (before .builds) (after .placed) (after .builds)
         ⌝ }
 {
     if key == 0 {
         return;
     }
-    if after.state != before.state {
+    if after.builds != before.builds {
         return;
     }
     let size = (after.placed - before.placed) as u64;
-    let at = 2 * slot_for(known, key, size);
+    let at = 2 * cell_for(known, key, size);
     known[at] = key;
     known[at + 1] = size;
 }

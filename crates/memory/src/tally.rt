@@ -5,27 +5,27 @@ ghost use Rattle.memory.specs.Tally.{mostBudget, Placed, Skips};
 // The placements made, and the builds that are complete, or 3 where the budget is spent.
 pub struct Tally {
     pub placed: u32,
-    pub state: u32,
+    pub builds: u32,
 }
 
-// The state in which the budget is spent.
+// In place of the builds where the budget is spent.
 pub const SPENT: u32 = 3;
 
 // A placement at the place i of m: it is counted, and at the last place it completes a build.
 pub fn placed_at(i: usize, m: usize, t: Tally) -> Tally
-    requires { ⌜ (i < m) × (t .placed < mostBudget) × (t .state < 2) ⌝ }
-    ensures { λ r. ⌜ Placed i m (t .placed) (t .state) (r .placed) (r .state) ⌝ }
+    requires { ⌜ (i < m) × (t .placed < mostBudget) × (t .builds < 2) ⌝ }
+    ensures { λ r. ⌜ Placed i m (t .placed) (t .builds) (r .placed) (r .builds) ⌝ }
 {
     let placed = t.placed + 1;
     if i + 1 == m {
         Tally {
             placed,
-            state: t.state + 1,
+            builds: t.builds + 1,
         }
     } else {
         Tally {
             placed,
-            state: t.state,
+            builds: t.builds,
         }
     }
 }
@@ -33,17 +33,17 @@ pub fn placed_at(i: usize, m: usize, t: Tally) -> Tally
 // So many placements more, or the budget is spent.
 pub fn skipped(size: u64, budget: u32, t: Tally) -> Tally
     requires { ⌜ t .placed ≤ budget ⌝ }
-    ensures { λ r. ⌜ Skips size budget (t .placed) (t .state) (r .placed) (r .state) ⌝ }
+    ensures { λ r. ⌜ Skips size budget (t .placed) (t .builds) (r .placed) (r .builds) ⌝ }
 {
     let rest = budget - t.placed;
     if size > rest as u64 {
         return Tally {
             placed: budget,
-            state: SPENT,
+            builds: SPENT,
         };
     }
     Tally {
         placed: t.placed + size as u32,
-        state: t.state,
+        builds: t.builds,
     }
 }

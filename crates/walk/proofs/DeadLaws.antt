@@ -1,14 +1,15 @@
 -- What a run makes of a state from which no build is reached, and how a run tells one. Assumes nothing.
-use mathlib.Core.Path.{_≡_, refl, sym, ap, _∙_}
+use mathlib.Core.Path.{_≡_, refl}
 use mathlib.Core.Bool.{Bool, true, false, cond}
 use mathlib.Core.List.{List, [], _∷_, _++_, map}
 use Prim.Native.Nat.{ℕ, suc, _+_, _≤_, _<_}
 use native.Mathlib.Omega.{arith}
-use lib.ListN.{length, length-append, length-map}
+use lib.ListN.{length, length-append}
 use lib.Dec.{eqb, leb}
 use borrow.Author.Tests.{leb-true, leb-false, lt-leb, eqb-false, ne-eqb}
 use Rattle.spans.specs.Run.{Run, searching, one, two, spent, reach, run}
 use Rattle.spans.proofs.Runs.{run-spent}
+use Rattle.memory.specs.Tally.{spentState}
 use Rattle.walk.specs.Going.{Shows, none-yet, one-build, two-builds, stopped}
 use Rattle.walk.specs.Recalling.{Dead, none, more}
 use Rattle.walk.proofs.RunLaws.{shows-spent}
@@ -32,13 +33,20 @@ abbrev stateOf : Run → ℕ
 stateOf (searching n) = 0
 stateOf (one vs n) = 1
 stateOf (two vs n) = 2
-stateOf spent = 3
+stateOf spent = spentState
 
 shows-state : {path first : List ℕ} {n state : ℕ} {r : Run} → Shows path n state first r → stateOf r ≡ state
 shows-state (none-yet e) = refl
 shows-state one-build = refl
 shows-state two-builds = refl
 shows-state stopped = refl
+
+placed-same : {path path′ kept kept′ : List ℕ} {n n′ state : ℕ} {r : Run} → Shows path n state kept r → state < 2
+    → Shows path′ n′ state kept′ r → n′ ≡ n
+placed-same (none-yet e) h (none-yet f) = refl
+placed-same one-build h one-build = refl
+placed-same two-builds h t = absurd (omega arith)
+placed-same stopped h t = absurd (omega arith)
 
 module _ (m budget : ℕ) where
   reach-rises : (r : Run) (ws : List ℕ) → stateOf r ≤ stateOf (reach m budget r ws)
@@ -113,13 +121,6 @@ module _ (m budget : ℕ) where
       rw z (run-fits d (reach-on s h (omega arith) ws short) h (omega arith))
 
   -- ---- a run that completes no build and is not stopped tells it
-
-  placed-same : {path path′ kept kept′ : List ℕ} {n n′ state : ℕ} {r : Run} → Shows path n state kept r → state < 2
-      → Shows path′ n′ state kept′ r → n′ ≡ n
-  placed-same (none-yet e) h (none-yet f) = refl
-  placed-same one-build h one-build = refl
-  placed-same two-builds h t = absurd (omega arith)
-  placed-same stopped h t = absurd (omega arith)
 
   pub run-kept : {path path′ kept kept′ : List ℕ} {n n′ state : ℕ} {r : Run} (reached : List (List ℕ)) → Shows path n state kept r
       → state < 2 → Shows path′ n′ state kept′ (run m budget r reached)

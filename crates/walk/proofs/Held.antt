@@ -6,7 +6,6 @@ use mathlib.Core.List.{List, [], _∷_, _++_, map, foldl}
 use mathlib.Core.Option.{Option, some}
 use Prim.Native.Nat.{ℕ, _+_, _-_, _≤_, _<_}
 use native.Mathlib.Omega.{arith}
-use native.Mathlib.Numerals.{add-one}
 use lib.ListN.{length, getD, set, length-append, length-set}
 use lib.Seq.{getD-set-same, getD-set-other, set-set, set-getD}
 use lib.Bits.{bitAnd}
@@ -19,7 +18,8 @@ use Rattle.sequence.specs.Lists.{In, keep}
 use Rattle.memory.specs.Tally.{spentState, Placed}
 use Rattle.walk.specs.Steps.{isLeft, left, able, isDue, opened, tries, ahead, noWord, Listed, Opened, Next}
 use Rattle.walk.specs.Going.{Shows, none-yet, one-build, two-builds, stopped, Ready, later-on, Sought, Went}
-use Rattle.walk.proofs.StepLaws.{in-part, list-is, opened-list, ahead-at}
+use Rattle.walk.proofs.StepLaws.{in-part, opened-list, ahead-at}
+use Rattle.walk.proofs.PlaceLaws.{list-ends}
 use Rattle.walk.proofs.Candidates.{Place, Alone, opened-alone, opened-below, opened-in}
 use Rattle.walk.proofs.RunLaws.{shows-prefix, shows-spent, shows-reach}
 use Rattle.walk.proofs.Turns.{turn, turn-spent, turns-two, turns-spent, place-turns}
@@ -175,31 +175,12 @@ module _ {words twos starts slots marks kept : List ℕ} {i placed state budget 
       here = λ x from to. opened-in (own-place inside) (getD slots x 0) (x-in x from to);
     }
       where
-        last-start : getD starts (i + 1) 0 ≤ length slots
-        last-start = rw (add-one i) (ready .prepared .ends i inside)
-
         there : hi′ ≤ length slots
-        there = omega (arith, open-is .to, last-start)
+        there = omega (arith, open-is .to, list-ends ready inside lo-is hi-is)
 
         x-in : (x : ℕ) → k ≤ x → x < hi′ → In (getD slots x 0)
             (opened (keep (isDue twos marks i) (listAt starts slots i)) (listAt starts slots i))
         x-in x from to = rw (opened-list starts lo-is hi-is open-is) at (in-part slots lo′ hi′ x (omega (arith, next .on)) to there)
-
-  -- the slots of the place's list
-  pub listed-start : i < length words → {lo hi : ℕ} → lo ≡ getD starts i 0 → hi ≡ getD starts (i + 1) 0 → Listed slots lo hi (length words)
-  listed-start inside {lo} {hi} lo-is hi-is = record {
-    ends = there;
-    below = λ x from to. ready .prepared .here i (getD slots x 0) inside (rw table-is at (in-part slots lo hi x from to there)) .0;
-  }
-    where
-      last-start : getD starts (i + 1) 0 ≤ length slots
-      last-start = rw (add-one i) (ready .prepared .ends i inside)
-
-      there : hi ≤ length slots
-      there = omega (arith, last-start)
-
-      table-is : part slots lo hi ≡ listAt starts slots i
-      table-is = list-is slots starts i lo-is hi-is
 
 -- ---- a turn
 
@@ -281,7 +262,7 @@ module _ {words twos starts slots marks₀ kept₀ marks kept kept′ : List ℕ
   marked : e < length marks
   marked = omega (arith, ready .marks-all, ap length (held .unmarked))
 
-  -- the call below is made where no entry that is left ends before its place
+  -- the call below is made where no entry that is left ends before its place, and those that are placed and do not are in its list
   pub ready-below : Alone i words twos marks₀ e → In e (listAt starts slots i)
       → Ready words twos starts slots (set marks e 1) kept′ (i + 1) placed′ state′ budget
   ready-below alone here = record {
@@ -291,6 +272,7 @@ module _ {words twos starts slots marks₀ kept₀ marks kept kept′ : List ℕ
     twos-all = ready .twos-all;
     marks-all = length-set marks e 1 ∙ ap length (held .unmarked) ∙ ready .marks-all;
     firsts-all = kept-length;
+    numbered = ready .numbered;
     inside = omega arith;
     within = omega (arith, counted .count);
     going = λ h. omega (arith, counted .other h);
@@ -341,16 +323,16 @@ module _ {words twos starts slots marks₀ kept₀ marks kept kept′ : List ℕ
         prepared = s .prepared;
         masks = s .masks;
         wants = later-on {i = i + 1} (omega arith) (mask-tail l mask w (s .masks));
-        stands = length-append path (w ∷ []) ∙ ap (λ n. n + 1) (s .stands);
+        as-far = length-append path (w ∷ []) ∙ ap (λ n. n + 1) (s .as-far);
       }
 
       reached : {r : Run} → Shows path placed state kept r
           → Shows (path ++ (w ∷ [])) placed′ state′ kept′ (reach (length words) budget r (path ++ (w ∷ [])))
       reached shown =
-          let at-path : Placed (length path) (length words) placed state placed′ state′ = rw (s .stands) counted in
-          let at-place = shows-reach (length words) budget w shown going room (held .firsts ∙ ready .firsts-all) (omega (arith, s .stands))
+          let at-path : Placed (length path) (length words) placed state placed′ state′ = rw (s .as-far) counted in
+          let at-place = shows-reach (length words) budget w shown going room (held .firsts ∙ ready .firsts-all) (omega (arith, s .as-far))
           at-path in
-          rw kept-is (rw (s .stands) at at-place)
+          rw kept-is (rw (s .as-far) at at-place)
 
       turned : {r : Run} → Shows path placed state kept r
           → Shows path placed″ state″ kept″ (turn l words ones twos marks₀ i budget path r e)

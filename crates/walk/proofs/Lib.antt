@@ -1,5 +1,6 @@
 -- `KeepLaws`: tests, and those of a list that pass one.
 -- `StepLaws`: the slots of a place: what is due, what is opened, and what is tried from a slot on.
+-- `PlaceLaws`: the list of a place, by where it begins and ends.
 -- `Candidates`: who is a candidate at a place, by the place's list alone.
 -- `RunLaws`: the run at a place, as the code makes it. `DeadLaws`: a run over what completes no build.
 -- `RecallLaws`: what is remembered of a state is true, and what is told of it is what the walk would come to.
@@ -10,6 +11,7 @@ pub mod Candidates
 pub mod RunLaws
 pub mod DeadLaws
 pub mod Turns
+pub mod PlaceLaws
 pub mod Held
 pub mod RecallLaws
 pub mod WholeLaws

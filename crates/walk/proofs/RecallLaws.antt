@@ -7,24 +7,22 @@ use mathlib.Core.List.{List, _++_, map}
 use mathlib.Core.Option.{Option}
 use Prim.Native.Nat.{ℕ, zero, suc, _+_, _*_, _-_, _≤_, _<_}
 use native.Mathlib.Omega.{arith}
-use native.Mathlib.Numerals.{add-one}
-use lib.ListN.{length, getD, take, drop, length-map}
+use lib.ListN.{length, getD, take, replicate, length-map, length-replicate, getD-replicate}
 use lib.Seq.{length-take-le}
 use Rattle.sequence.specs.Lists.{In, numbers}
 use Rattle.sequence.proofs.FillingLaws.{lt-or-le}
 use Rattle.spans.specs.Walk.{walk}
-use Rattle.spans.specs.Run.{Run, searching, one, run}
+use Rattle.spans.specs.Run.{Run, searching, one}
 use Rattle.spans.proofs.Indices.{numbers-in}
 use Rattle.memory.specs.Tally.{Skips}
 use Rattle.memory.specs.Memory as memory
-use Rattle.memory.specs.Memory.{bitsOf, Below, KeyOf, Keyed, Told, Stored, Nothing}
+use Rattle.memory.specs.Memory.{bitsOf, KeyOf, Keyed, Told, Stored}
 use Rattle.memory.proofs.KeyLaws.{bits-same, key-tells}
 use Rattle.tables.specs.Prepared.{listAt}
 use Rattle.walk.specs.Steps.{isLeft, spanAt, left}
 use Rattle.walk.specs.Going.{Shows, none-yet, one-build, stopped, Stands, Ready, Sought, Went}
 use Rattle.walk.specs.Recalling.{Ended, Ends, Recalls}
 use Rattle.walk.proofs.KeepLaws.{keep-same}
-use Rattle.walk.proofs.StepLaws.{part-lent, list-is}
 use Rattle.walk.proofs.DeadLaws.{dead-after, after-dead, run-over, run-fits, run-kept}
 
 -- ---- equal keys are equal states
@@ -64,30 +62,19 @@ module _ {words twos starts slots marks marks′ : List ℕ} {i i′ want want�
       let at : Stands words twos starts slots marks′ i = rw place at st′ in
       rw (place, sym (tells .2)) (ends-same inside st at (bits-same marks marks′ (listAt starts slots i) bits) ends)
 
--- ---- the list of the place, as the code lends it
-
-module _ {words twos starts slots marks kept : List ℕ} {i placed state budget lo hi : ℕ}
-    (ready : Ready words twos starts slots marks kept i placed state budget) (inside : i < length words) (lo-is : lo ≡ getD starts i 0)
-    (hi-is : hi ≡ getD starts (i + 1) 0) where
-  pub list-rises : lo ≤ hi
-  list-rises = omega (arith, lo-is, hi-is, rw (← add-one i) at (ready .prepared .rises i inside))
-
-  pub list-ends : hi ≤ length slots
-  list-ends = omega (arith, hi-is, rw (← add-one i) at (ready .prepared .ends i inside))
-
-  pub list-lent : take (hi - lo) (drop lo slots) ≡ listAt starts slots i
-  list-lent = part-lent slots lo hi list-rises list-ends ∙ list-is slots starts i lo-is hi-is
-
-  pub list-below : Below (take (hi - lo) (drop lo slots)) (length marks)
-  list-below = rw (list-lent, ready .marks-all) record { each = λ j m. ready .prepared .here i j inside m .0 }
-
--- nothing is told by a memory that says nothing
-pub recalls-none : {known : List ℕ} (words twos starts slots : List ℕ) (mask : ℕ) → length known ≡ memory.numbers → Nothing known
+-- a memory of zeros tells nothing
+pub recalls-none : {known : List ℕ} (words twos starts slots : List ℕ) (mask : ℕ) → known ≡ replicate memory.memoryLength 0
     → Recalls words twos starts slots known mask
-recalls-none words twos starts slots mask all none = record {
-  all = all;
-  each = λ s h marks i want st k. absurd (omega (arith, k .made, none .each (2 * s)));
+recalls-none words twos starts slots mask e = rw e record {
+  all = length-replicate {A = ℕ} memory.memoryLength 0;
+  each = λ s h marks i want st k. absurd (omega (arith, k .made, getD-replicate {A = ℕ} memory.memoryLength (2 * s) 0 0 (omega arith)));
 }
+
+-- a run that has come so far, whatever it has found
+start-shows : (s n : ℕ) (path first : List ℕ) → s < 2 → take (length path) first ≡ path → (r : Run) × Shows path n s first r
+start-shows zero n path first h e = (searching n, none-yet e)
+start-shows (suc zero) n path first h e = (one first n, one-build)
+start-shows (suc (suc s)) n path first h e = absurd (omega arith)
 
 -- ---- what is told of a state
 
@@ -99,7 +86,7 @@ module _ {words twos starts slots marks kept : List ℕ} {i placed state budget 
       → Ends words twos starts slots marks mask i want size
   ends-told {want} recalls keyed told =
       rw (told .size-is) at
-      (recalls .each (told .slot) (told .inside) marks i want (ready .stands) (rw (told .key-is) (keyed .known (told .some))))
+      (recalls .each (told .cell) (told .inside) marks i want (ready .stands) (rw (told .key-is) (keyed .is-key (told .some))))
 
   ends-went : {mask want size placed′ state′ : ℕ} → Ends words twos starts slots marks mask i want size
       → Skips size budget placed state placed′ state′
@@ -114,7 +101,7 @@ module _ {words twos starts slots marks kept : List ℕ} {i placed state budget 
       ended l ones p path s =
           let e = ends .each l ones p path s in
           record {
-            dead = dead-after path (length words - i) (length words) (omega (arith, s .stands)) (e .dead);
+            dead = dead-after path (length words - i) (length words) (omega (arith, s .as-far)) (e .dead);
             long = length-map (walk l (length words - i) i p (left words ones twos marks)) (λ ws. path ++ ws) ∙ e .long;
           }
 
@@ -148,11 +135,6 @@ module _ {words twos starts slots marks kept : List ℕ} {i placed state budget 
 
   -- ---- what is remembered of a state
 
-  start-shows : (s n : ℕ) (path first : List ℕ) → s < 2 → take (length path) first ≡ path → (r : Run) × Shows path n s first r
-  start-shows zero n path first h e = (searching n, none-yet e)
-  start-shows (suc zero) n path first h e = (one first n, one-build)
-  start-shows (suc (suc s)) n path first h e = absurd (omega arith)
-
   went-ends : {marks′ kept′ : List ℕ} {mask want size placed′ state′ : ℕ}
       → Went words twos starts slots marks kept marks′ kept′ mask i want budget placed state placed′ state′
       → state′ ≡ state → placed + size ≡ placed′
@@ -166,7 +148,7 @@ module _ {words twos starts slots marks kept : List ℕ} {i placed state budget 
 
       read : (l : ℕ) (ones : List ℕ) (p : Option ℕ) (path : List ℕ) → Sought l words ones twos starts slots mask i want p path
           → Sought l words ones twos starts slots mask i want p (take i kept)
-      read l ones p path s = record { card = s .card; prepared = s .prepared; masks = s .masks; wants = s .wants; stands = stood }
+      read l ones p path s = record { card = s .card; prepared = s .prepared; masks = s .masks; wants = s .wants; as-far = stood }
 
       shown : (r : Run) × Shows (take i kept) placed state kept r
       shown = start-shows state placed (take i kept) kept (ready .going inside) (ap (λ n. take n kept) stood)
@@ -191,6 +173,6 @@ module _ {words twos starts slots marks kept : List ℕ} {i placed state budget 
     all = stored .all ∙ recalls .all;
     each = λ s h marks° i° want° st k. ⊎-elim
         (λ q. rw (q .1) (recalls .each s h marks° i° want° st (rw (q .0) at k)))
-        (λ q. key-ends inside (ready .stands) st (keyed .known (q .1)) (rw (q .2) at k) (went-ends went (q .0) (q .3)))
+        (λ q. key-ends inside (ready .stands) st (keyed .is-key (q .1)) (rw (q .2) at k) (went-ends went (q .0) (q .3)))
         (stored .each s h);
   }

@@ -90,6 +90,7 @@ module _ {l : ℕ} {words ones twos starts slots marks : List ℕ} (card : Spans
     twos-all = card .twos-too;
     marks-all = marks-all;
     firsts-all = kept-all;
+    numbered = card .few-entries;
     inside = omega arith;
     within = omega arith;
     going = λ h. omega arith;
@@ -126,7 +127,7 @@ module _ {l : ℕ} {words ones twos starts slots marks : List ℕ} (card : Spans
     shown : Shows [] placed′ state′ kept′ (run (length es) budget (searching 0) (walked l es))
     shown = rw (whole-run budget) at
         (went .runs l ones none [] (searching 0)
-        (record { card = card; prepared = prepared; masks = masks; wants = at-first; stands = refl }) (none-yet refl))
+        (record { card = card; prepared = prepared; masks = masks; wants = at-first; as-far = refl }) (none-yet refl))
 
     -- and what the code answers means what it says
     pub whole-walk : Walks l es budget (walkedAt budget placed′ state′) kept′

@@ -12,11 +12,11 @@ use mathlib.Core.List.{List, _++_, map}
 use mathlib.Core.Option.{Option, none, some}
 use Prim.Native.Nat.{ℕ, _+_, _-_, _^_, _%_, _≤_, _<_}
 use lib.ListN.{length, getD, take}
-use Rattle.spans.specs.Walk.{walk}
 use Rattle.sequence.specs.Lists.{In}
+use Rattle.spans.specs.Walk.{walk}
 use Rattle.spans.specs.Run.{Run, searching, one, two, spent, run}
 use Rattle.memory.specs.Tally.{spentState}
-use Rattle.tables.specs.Spans.{Spans}
+use Rattle.tables.specs.Spans.{mostNumbered, Spans}
 use Rattle.tables.specs.Prepared.{Prepared, listAt}
 use Rattle.walk.specs.Steps.{isLeft, left}
 
@@ -38,6 +38,7 @@ pub record Ready (words twos starts slots marks first : List ℕ) (i placed stat
   pub twos-all : length twos ≡ length words
   pub marks-all : length marks ≡ length words
   pub firsts-all : length first ≡ length words
+  pub numbered : length words < mostNumbered
   pub inside : i ≤ length words
   pub within : placed ≤ budget
   pub going : i < length words → state < 2
@@ -53,7 +54,7 @@ pub record Sought (l : ℕ) (words ones twos starts slots : List ℕ) (mask i wa
   pub prepared : Prepared words ones twos starts slots
   pub masks : mask + 1 ≡ 4 ^ (l - 1)
   pub wants : Wants l i want p
-  pub stands : length path ≡ i
+  pub as-far : length path ≡ i
 
 pub record Went (words twos starts slots marks first marks′ first′ : List ℕ) (mask i want budget placed state placed′ state′ : ℕ)
     : Type 0 where

@@ -1,5 +1,5 @@
 -- `Walked` is what a walk over lists answers, and what that means. For the inner functions, `Steps` is what the steps of the code find,
--- `Going` what a call of the recursive walk asks and promises, and `Recalling` what it does of the memory.
+-- `Going` what a call of the recursive walk asks and promises, and `Recalling` what it asks and promises of the memory.
 pub mod Steps
 pub mod Going
 pub mod Recalling

@@ -1,10 +1,10 @@
--- What the memory says of the walk: that a state, met again, is walked as before, and that what is remembered of it is true.
+-- What the memory says of the walk, and that it is true.
 --   Dead n reached                == nothing of what is reached has n words
 --   Ended n size reached          == what is reached is dead, and so many placements
 --   Ends words twos starts slots marks mask i want size
 --                                 == from the state on the walk completes no build, in `size` placements
 --   Recalls words twos starts slots known mask
---                                 == what the memory says is true: every state with the key of a slot ends in the size of that slot
+--                                 == what the memory says is true: every state with the key of a cell ends in the size of that cell
 -- Assumes nothing.
 use mathlib.Core.Path.{_≡_}
 use mathlib.Core.Bool.{false}
@@ -33,7 +33,7 @@ pub record Ends (words twos starts slots marks : List ℕ) (mask i want size : �
       → Ended (length words - i) size (walk l (length words - i) i p (left words ones twos marks))
 
 pub record Recalls (words twos starts slots known : List ℕ) (mask : ℕ) : Type 0 where
-  pub all : length known ≡ memory.numbers
-  pub each : (s : ℕ) → s < memory.slots → (marks : List ℕ) (i want : ℕ) → Stands words twos starts slots marks i
+  pub all : length known ≡ memory.memoryLength
+  pub each : (s : ℕ) → s < memory.cells → (marks : List ℕ) (i want : ℕ) → Stands words twos starts slots marks i
       → KeyOf marks (listAt starts slots i) i want (getD known (2 * s) 0)
       → Ends words twos starts slots marks mask i want (getD known (2 * s + 1) 0)

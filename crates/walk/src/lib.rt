@@ -137,11 +137,11 @@ fn next(
 }
 
 // The word w stands at the place i: it is kept while no build is complete.
-fn keep_word(first: &mut [u32], i: usize, w: u32, state: u32)
+fn keep_word(first: &mut [u32], i: usize, w: u32, builds: u32)
     requires { ⌜ i < length (now first) ⌝ }
-    ensures { λ _. ⌜ now (first .exit) ≡ cond (eqb state 0) (set (now (first .entry)) i w) (now (first .entry)) ⌝ }
+    ensures { λ _. ⌜ now (first .exit) ≡ cond (eqb builds 0) (set (now (first .entry)) i w) (now (first .entry)) ⌝ }
 {
-    if state == 0 {
+    if builds == 0 {
         first[i] = w;
     }
 }
@@ -155,18 +155,18 @@ fn walk_from(
     twos: &[u16],
     marks: &mut [u8],
     first: &mut [u32],
-    known: &mut [u64; memory::NUMBERS],
+    known: &mut [u64; memory::LENGTH],
     i: usize,
     want: u32,
     mask: u32,
     budget: u32,
     t: Tally,
 ) -> Tally
-    requires { ⌜ Ready (now words) (now twos) (now starts) (now slots) (now marks) (now first) i (t .placed) (t .state) budget ⌝ }
+    requires { ⌜ Ready (now words) (now twos) (now starts) (now slots) (now marks) (now first) i (t .placed) (t .builds) budget ⌝ }
     requires { ⌜ Recalls (now words) (now twos) (now starts) (now slots) (now known) mask ⌝ }
     ensures { λ r. ⌜
         Went (now (words .entry)) (now (twos .entry)) (now (starts .entry)) (now (slots .entry)) (now (marks .entry)) (now (first .entry))
-        (now (marks .exit)) (now (first .exit)) mask i want budget (t .placed) (t .state) (r .placed) (r .state)
+        (now (marks .exit)) (now (first .exit)) mask i want budget (t .placed) (t .builds) (r .placed) (r .builds)
         ⌝ }
     ensures { λ _. ⌜ Recalls (now (words .entry)) (now (twos .entry)) (now (starts .entry)) (now (slots .entry)) (now (known .exit)) mask ⌝ }
 {
@@ -191,13 +191,13 @@ fn walk_from(
         if acc.placed == budget {
             return Tally {
                 placed: budget,
-                state: SPENT,
+                builds: SPENT,
             };
         }
         let e = at16(slots, k);
         let w = words[e];
         marks[e] = 1;
-        keep_word(first, i, w, acc.state);
+        keep_word(first, i, w, acc.builds);
         acc = memory::tally::placed_at(i, words.len(), acc);
         acc = walk_from(
             starts,
@@ -214,7 +214,7 @@ fn walk_from(
             acc,
         );
         marks[e] = 0;
-        if acc.state >= 2 {
+        if acc.builds >= 2 {
             return acc;
         }
         k = next(slots, words, marks, k + 1, hi, i, want, w);
@@ -236,15 +236,15 @@ fn unmark(marks: &mut [u8])
 
 // What a walk that has run out, or stopped, comes to.
 fn outcome_of(t: Tally, budget: u32) -> Walked
-    ensures { λ r. ⌜ r ≡ walkedAt budget (t .placed) (t .state) ⌝ }
+    ensures { λ r. ⌜ r ≡ walkedAt budget (t .placed) (t .builds) ⌝ }
 {
-    if t.state == 0 {
+    if t.builds == 0 {
         return Walked::None(t.placed);
     }
-    if t.state == 1 {
+    if t.builds == 1 {
         return Walked::Sole(t.placed);
     }
-    if t.state == 2 {
+    if t.builds == 2 {
         return Walked::Several(t.placed);
     }
     Walked::Unsettled(budget)
@@ -284,7 +284,7 @@ pub fn walk(
     let mask = entries::words_of(l - 1) - 1;
     let none = Tally {
         placed: 0,
-        state: 0,
+        builds: 0,
     };
     let mut known = memory::nothing();
     let t = walk_from(

@@ -16,20 +16,23 @@ pub const LEAST: u32 = 10_000;
 /// The letters of the words that are drawn: the fewer, the more the walk tries.
 const LETTERS: usize = 2;
 
-/// The lists that are stored.
-fn stored() -> Vec<Lists> {
+/// The lists that are stored, with the placements that are stated of each.
+fn stored() -> Vec<(u32, Lists)> {
     let lines = include_str!("late.txt").lines();
-    let mut all: Vec<Lists> = Vec::new();
+    let mut all: Vec<(u32, Lists)> = Vec::new();
     for line in lines.filter(|line| !line.starts_with('#')) {
         let numbers = line.split(' ').map(|word| word.parse::<u32>());
         let numbers: Vec<u32> = numbers.collect::<Result<_, _>>().expect("numbers");
         match (&numbers[..], all.last_mut()) {
-            (&[word, one, two], Some(lists)) => lists.push(Stored {
+            (&[word, one, two], Some((_, lists))) => lists.push(Stored {
                 word,
                 one: one as u16,
                 two: two as u16,
             }),
-            _ => all.push(Lists::empty(usize::from(SPAN), numbers[0] as usize)),
+            (&[l, placements], _) => {
+                all.push((placements, Lists::empty(usize::from(SPAN), l as usize)));
+            }
+            _ => panic!("a line of late.txt: {line}"),
         }
     }
     all
@@ -44,7 +47,7 @@ impl Late {
     /// Lists that are stored, in a random order.
     pub fn new(random: &mut Random) -> Late {
         let mut stored = stored();
-        let mut lists = stored.swap_remove(random.below(stored.len()));
+        let (_, mut lists) = stored.swap_remove(random.below(stored.len()));
         shuffle(random, &mut lists);
         Late { lists }
     }
@@ -60,20 +63,20 @@ impl Late {
         for _ in 0..random.between(1, 2) {
             change(random, &mut lists);
         }
-        if is_late(&lists) {
+        if sole_after(&lists).is_some_and(|placements| placements >= LEAST) {
             self.lists = lists;
         }
     }
 }
 
-/// Says whether the lists have one build, after a long walk.
-fn is_late(lists: &Lists) -> bool {
+/// The placements of lists that have one build.
+fn sole_after(lists: &Lists) -> Option<u32> {
     let (profile, entries) = lists.admitted().expect("sound lists");
     let found = Counted::new(profile.l, &entries).within(u32::MAX);
-    found.verdict == Verdict::Sole && found.placements >= LEAST
+    (found.verdict == Verdict::Sole).then_some(found.placements)
 }
 
-/// Draws the word or the span of an entry anew, or gives it the word of another.
+/// Draws the word or the span of an entry anew, or has two entries change their words.
 fn change(random: &mut Random, lists: &mut Lists) {
     let m = lists.words.len();
     let i = random.below(m);
@@ -92,13 +95,17 @@ fn change(random: &mut Random, lists: &mut Lists) {
 
 #[cfg(test)]
 mod tests {
-    use super::{is_late, stored, Late};
+    use super::{sole_after, stored, Late, LEAST};
     use crate::cards::Random;
 
     #[test]
-    fn the_stored_lists_are_late() {
-        assert_eq!(stored().len(), 2);
-        assert!(stored().iter().all(is_late));
+    fn the_stored_lists_are_what_is_stated() {
+        let all = stored();
+        assert_eq!(all.len(), 2);
+        for (placements, lists) in all {
+            assert!(placements >= LEAST);
+            assert_eq!(sole_after(&lists), Some(placements));
+        }
     }
 
     #[test]
@@ -109,7 +116,7 @@ mod tests {
         for _ in 0..200 {
             late.step(&mut random);
         }
-        assert!(is_late(late.lists()));
+        assert!(sole_after(late.lists()) >= Some(LEAST));
         assert_ne!(*late.lists(), first);
     }
 }

@@ -97,7 +97,7 @@ pub fn without_end(random: &mut Random, l: usize, m: usize) -> Lists {
     widest(random, l, &words)
 }
 
-/// Lists of few different words in the widest spans, of which many have a walk that is long.
+/// Lists of few different words in wide spans, of which many have a walk that is long.
 pub fn any_long(random: &mut Random) -> Lists {
     let l = random.between(2, 4);
     let m = random.between(20, usize::from(MOST_ENTRIES));

@@ -1,11 +1,11 @@
 -- `bits_of` meets its contract: the loop keeps that the marks of the first k entries are told (`Telling`). What falls is how many are left.
 -- Assumes nothing.
-use Prim.Native.Nat.{_-_, _≤_}
+use Prim.Native.Nat.{_-_}
 use native.Mathlib.Omega.{arith}
 use lib.ListN.{length, getD}
 use borrow.Author.Needs.{needs}
 use Rattle.sequence.proofs.FillingLaws.{getD-in}
-use Rattle.memory.proofs.KeyLaws.{Telling, telling-none, bit-small, telling-few, telling-turn, telling-all}
+use Rattle.memory.proofs.KeyLaws.{Telling, mark-small, telling-none, telling-few, telling-turn, telling-all}
 use Rattle.memory.proofs.bits_of.Statement.{statement}
 use Rattle.memory.proofs.bits_of.Tie as tie
 
@@ -41,8 +41,12 @@ mark-of-requires c κs = start (c .before) .pre .0 .each _ (getD-in _ (c .before
 add-bits : tie.Need-add-bits Inv-loop μ-loop
 add-bits c =
     let at = turn c in
-    let small : c .mark-of .result ≤ 1 = bit-small (start at .args .marks .now) _ (c .mark-of .ensures) in
-    omega (arith, telling-few _ _ (at .before .loop .inv) (start at .pre .1))
+    omega (
+      arith,
+      telling-few _ _ (at .before .loop .inv) (start at .pre .1),
+      c .mark-of .ensures,
+      mark-small (start at .args .marks .now) (getD (start at .args .list .now) (at .before .loop .k) 0),
+    )
 
 add-k : tie.Need-add-k Inv-loop μ-loop
 add-k c = search needs

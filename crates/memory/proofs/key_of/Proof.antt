@@ -3,17 +3,14 @@ use borrow.Author.Needs.{needs}
 use Rattle.memory.proofs.key_of.Statement.{statement}
 use Rattle.memory.proofs.key_of.Tie as tie
 
+add-if1 : tie.Need-add-if1
+add-if1 c = search needs
+
 returns : tie.Need-returns
 returns c = search needs
 
-add-if2 : tie.Need-add-if2
-add-if2 c = search needs
-
 returns-2 : tie.Need-returns-2
 returns-2 c = search needs
-
-returns-3 : tie.Need-returns-3
-returns-3 c = search needs
 
 bits-of-requires : tie.Need-bits-of-requires
 bits-of-requires c κs = search needs
@@ -33,21 +30,20 @@ add-result-2 c = search needs
 add-result-3 : tie.Need-add-result-3
 add-result-3 c = search needs
 
-returns-4 : tie.Need-returns-4
-returns-4 c = search needs
+returns-3 : tie.Need-returns-3
+returns-3 c = search needs
 
 pub key-of-spec : {M : Type 1} → statement M
 key-of-spec =
     tie.close
     (tie.spec
+    add-if1
     returns
-    add-if2
     returns-2
-    returns-3
     bits-of-requires
     mul-result
     add-result
     mul-result-2
     add-result-2
     add-result-3
-    returns-4)
+    returns-3)

@@ -1,9 +1,9 @@
--- `recall` meets its contract, test by test: the first slot of the bucket, and the second. Assumes nothing.
+-- `recall` meets its contract, test by test: the first cell of the bucket, and the second. Assumes nothing.
 use mathlib.Core.Path.{refl}
 use Prim.Native.Nat.{_+_, _*_}
 use native.Mathlib.Omega.{arith}
 use borrow.Author.Needs.{needs}
-use Rattle.memory.proofs.SlotLaws.{told-at}
+use Rattle.memory.proofs.CellLaws.{told-at}
 use Rattle.memory.proofs.recall.Statement.{statement}
 use Rattle.memory.proofs.recall.Tie as tie
 

@@ -1,12 +1,12 @@
--- `remember` meets its contract: nothing is stored, or one slot. Assumes nothing.
+-- `remember` meets its contract: nothing is stored, or one cell. Assumes nothing.
 use borrow.Author.Needs.{needs}
-use Rattle.memory.proofs.SlotLaws.{stored-none, stored-new}
+use Rattle.memory.proofs.CellLaws.{stored-none, stored-new}
 use Rattle.memory.proofs.remember.Statement.{statement}
 use Rattle.memory.proofs.remember.Tie as tie
 
 -- ---- places, from the last to the start
 
-abbrev ended : tie.After-slot-for → tie.Else2
+abbrev ended : tie.After-cell-for → tie.Else2
 ended c = c .before .before .before .before
 
 abbrev keyed : tie.Else2 → tie.Else1
@@ -24,8 +24,8 @@ sub-size c = search needs
 cast-size : tie.Need-cast-size
 cast-size c = search needs
 
-slot-for-requires : tie.Need-slot-for-requires
-slot-for-requires c κs = search needs
+cell-for-requires : tie.Need-cell-for-requires
+cell-for-requires c κs = search needs
 
 mul-at : tie.Need-mul-at
 mul-at c = search needs
@@ -49,7 +49,7 @@ returns-3 : tie.Need-returns-3
 returns-3 c =
     let at = ended c in
     let asked = keyed at .before .pre in
-    stored-new _ _ _ _ _ _ (c .slot-for .result) (c .slot-for .ensures) (asked .1) (at .if2 .left) (keyed at .if1 .left) (asked .0)
+    stored-new _ _ _ _ _ _ (c .cell-for .result) (c .cell-for .ensures) (asked .1) (at .if2 .left) (keyed at .if1 .left) (asked .0)
 
 pub remember-spec : {M : Type 1} → statement M
 remember-spec =
@@ -59,7 +59,7 @@ remember-spec =
     returns-2
     sub-size
     cast-size
-    slot-for-requires
+    cell-for-requires
     mul-at
     mul-known
     element-write-known

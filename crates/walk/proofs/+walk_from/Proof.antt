@@ -12,8 +12,9 @@ use native.Mathlib.Omega.{arith}
 use lib.ListN.{length, getD, set, take, drop}
 use borrow.Author.Needs.{needs}
 use Rattle.walk.proofs.Held.{Held, Looping, Turning, still-marked, marks-kept, looping-turn, ready-end, held-start, open-start}
-use Rattle.walk.proofs.Held.{listed-start, held-spent, held-at, held-end, held-over, held-next, held-turn, open-next, ready-below}
-use Rattle.walk.proofs.RecallLaws.{list-rises, list-ends, list-lent, list-below, told-went, recalls-stored}
+use Rattle.walk.proofs.Held.{held-spent, held-at, held-end, held-over, held-next, held-turn, open-next, ready-below}
+use Rattle.walk.proofs.PlaceLaws.{list-rises, list-ends, listed-start, list-lent, list-below}
+use Rattle.walk.proofs.RecallLaws.{told-went, recalls-stored}
 use Rattle.walk.proofs.StepLaws.{listed-open, listed-on, ahead-none}
 use borrow.Fn.Kinds.{In}
 use borrow.Fn.PlainCycle.{Measures, is, falls, and}
@@ -71,7 +72,7 @@ calls t = (
 
 abbrev walk-from-Inv-loop : walk-from-lts.InvT-loop
 walk-from-Inv-loop starts slots words twos marks₀ first₀ known₀ i want mask budget t lo end hi k₀ key size acc₀ marks first known k acc =
-    Looping words twos starts slots marks₀ first₀ marks first i want mask budget hi k (t .placed) (t .state) (acc .placed) (acc .state)
+    Looping words twos starts slots marks₀ first₀ marks first i want mask budget hi k (t .placed) (t .builds) (acc .placed) (acc .builds)
     × Recalls words twos starts slots known mask
 
 abbrev walk-from-μ-loop : walk-from-lts.MeasureT-loop
@@ -93,11 +94,11 @@ module _ (t : ℕ) where
   abbrev Tried : Type 0
   Tried = walk-from-lts.After-next (calls t) (walk-from-at t) walk-from.Post walk-from-Inv-loop walk-from-μ-loop
 
-  abbrev Told : Type 0
-  Told = walk-from-lts.After-key-of (calls t) (walk-from-at t) walk-from.Post walk-from-Inv-loop walk-from-μ-loop
+  abbrev With-key : Type 0
+  With-key = walk-from-lts.After-key-of (calls t) (walk-from-at t) walk-from.Post walk-from-Inv-loop walk-from-μ-loop
 
-  abbrev Asked : Type 0
-  Asked = walk-from-lts.After-recall (calls t) (walk-from-at t) walk-from.Post walk-from-Inv-loop walk-from-μ-loop
+  abbrev Looked-up : Type 0
+  Looked-up = walk-from-lts.After-recall (calls t) (walk-from-at t) walk-from.Post walk-from-Inv-loop walk-from-μ-loop
 
   abbrev Turn : Type 0
   Turn = walk-from-lts.In-loop (calls t) (walk-from-at t) walk-from.Post walk-from-Inv-loop walk-from-μ-loop
@@ -129,14 +130,14 @@ module _ (t : ℕ) where
   abbrev bounds : Tried → Bounded
   bounds c = c .before .before .before .before
 
-  abbrev tried : Told → Tried
+  abbrev tried : With-key → Tried
   tried c = c .before .before .before .before
 
-  abbrev told : Asked → Told
-  told c = c .before .before
+  abbrev with-key : Looked-up → With-key
+  with-key c = c .before .before
 
-  abbrev asked : Turn → Asked
-  asked c = c .before .before .before
+  abbrev looked-up : Turn → Looked-up
+  looked-up c = c .before .before .before
 
   abbrev turn-of : Within → Turn
   turn-of c = c .before .before
@@ -161,7 +162,7 @@ module _ (t : ℕ) where
 -- the call
 module _ (t : ℕ) (c : Start t) where
   ready : Ready (c .args .words .now) (c .args .twos .now) (c .args .starts .now) (c .args .slots .now) (c .args .marks .now)
-      (c .args .first .now) (c .args .i) (c .args .t .placed) (c .args .t .state) (c .args .budget)
+      (c .args .first .now) (c .args .i) (c .args .t .placed) (c .args .t .builds) (c .args .budget)
   ready = c .pre .1 .0
 
   recalls : Recalls (c .args .words .now) (c .args .twos .now) (c .args .starts .now) (c .args .slots .now) (c .args .known .now)
@@ -171,7 +172,7 @@ module _ (t : ℕ) (c : Start t) where
 inside : (t : ℕ) (c : Passed t) → start t c .args .i < length (start t c .args .words .now)
 inside t c = omega (arith, ready t (start t c) .inside, c .if1 .left)
 
--- the list of the place begins at lo, and ends at hi
+-- the list of the place has its ends
 module _ (t : ℕ) (c : Bounded t) where
   abbrev at-place : Passed t
   at-place = c .before .before
@@ -182,21 +183,21 @@ module _ (t : ℕ) (c : Bounded t) where
   lo-is : c .before .start-of .result ≡ getD (placed-with .args .starts .now) (placed-with .args .i) 0
   lo-is = c .before .start-of .ensures
 
-  hi-is : c .start-of2 .result ≡ getD (placed-with .args .starts .now) (placed-with .args .i + 1) 0
-  hi-is = c .start-of2 .ensures
+  end-is : c .start-of2 .result ≡ getD (placed-with .args .starts .now) (placed-with .args .i + 1) 0
+  end-is = c .start-of2 .ensures
 
   in-slots : (c .before .start-of .result ≤ c .start-of2 .result) × (c .start-of2 .result ≤ length (placed-with .args .slots .now))
   in-slots =
       let card = ready t placed-with in
-      (list-rises card (inside t at-place) lo-is hi-is, list-ends card (inside t at-place) lo-is hi-is)
+      (list-rises card (inside t at-place) lo-is end-is, list-ends card (inside t at-place) lo-is end-is)
 
   -- the code lends it as a part
   lent-list : take (c .start-of2 .result - c .before .start-of .result) (drop (c .before .start-of .result) (placed-with .args .slots .now))
       ≡ listAt (placed-with .args .starts .now) (placed-with .args .slots .now) (placed-with .args .i)
-  lent-list = list-lent (ready t placed-with) (inside t at-place) lo-is hi-is
+  lent-list = list-lent (ready t placed-with) (inside t at-place) lo-is end-is
 
   list : Listed (placed-with .args .slots .now) (c .before .start-of .result) (c .start-of2 .result) (length (placed-with .args .words .now))
-  list = listed-start (ready t placed-with) (inside t at-place) lo-is hi-is
+  list = listed-start (ready t placed-with) (inside t at-place) lo-is end-is
 
 -- slot k is the first that is tried
 module _ (t : ℕ) (c : Tried t) where
@@ -206,21 +207,21 @@ module _ (t : ℕ) (c : Tried t) where
   begins : Looping (tried-with .args .words .now) (tried-with .args .twos .now) (tried-with .args .starts .now) (tried-with .args .slots .now)
       (tried-with .args .marks .now) (tried-with .args .first .now) (tried-with .args .marks .now) (tried-with .args .first .now)
       (tried-with .args .i) (tried-with .args .want) (tried-with .args .mask) (tried-with .args .budget)
-      (c .before .before .due .result .hi) (c .next .result) (tried-with .args .t .placed) (tried-with .args .t .state)
-      (tried-with .args .t .placed) (tried-with .args .t .state)
+      (c .before .before .due .result .hi) (c .next .result) (tried-with .args .t .placed) (tried-with .args .t .builds)
+      (tried-with .args .t .placed) (tried-with .args .t .builds)
   begins =
       let card = ready t tried-with in
       let at = bounds t c in
       let open-is = c .before .before .due .ensures in
       record {
-        held = held-start card (inside t (at-place t at)) _ (lo-is t at) (hi-is t at) open-is (c .next .ensures);
-        open-slots = open-start card (inside t (at-place t at)) 0 (lo-is t at) (hi-is t at) open-is (c .next .ensures);
+        held = held-start card (inside t (at-place t at)) _ (lo-is t at) (end-is t at) open-is (c .next .ensures);
+        open-slots = open-start card (inside t (at-place t at)) 0 (lo-is t at) (end-is t at) open-is (c .next .ensures);
         going = card .going (inside t (at-place t at));
         inside = inside t (at-place t at);
       }
 
--- the state has its key
-module _ (t : ℕ) (c : Told t) where
+-- the state has its key, or 0
+module _ (t : ℕ) (c : With-key t) where
   abbrev keyed-with : Start t
   keyed-with = tried-with t (tried t c)
 
@@ -234,15 +235,15 @@ module _ (t : ℕ) (c : Found t) where
   at-turn = turn-of t (within t c)
 
   abbrev called-with : Start t
-  called-with = keyed-with t (told t (asked t at-turn))
+  called-with = keyed-with t (with-key t (looked-up t at-turn))
 
   turning : Turning (called-with .args .words .now) (called-with .args .twos .now) (called-with .args .starts .now)
       (called-with .args .slots .now) (called-with .args .marks .now) (called-with .args .first .now)
       (at-turn .before .loop .marks) (at-turn .before .loop .first) (called-with .args .i)
       (called-with .args .want) (called-with .args .mask) (called-with .args .budget)
-      (tried t (told t (asked t at-turn)) .before .before .due .result .hi)
-      (at-turn .before .loop .k) (c .at16 .result) (called-with .args .t .placed) (called-with .args .t .state)
-      (at-turn .before .loop .acc .placed) (at-turn .before .loop .acc .state)
+      (tried t (with-key t (looked-up t at-turn)) .before .before .due .result .hi)
+      (at-turn .before .loop .k) (c .at16 .result) (called-with .args .t .placed) (called-with .args .t .builds)
+      (at-turn .before .loop .acc .placed) (at-turn .before .loop .acc .builds)
   turning = looping-turn (at-turn .before .loop .inv .0) (at-turn .loop-test .taken) (c .at16 .ensures)
 
   room : at-turn .before .loop .acc .placed < called-with .args .budget
@@ -266,12 +267,12 @@ module _ (t : ℕ) (c : Called t) where
       (walked-with .args .slots .now) (walked-with .args .marks .now) (walked-with .args .first .now)
       (set (c .walk-from .last .1 .1 .1 .1 .0) (tries-it .at16 .result) 0)
       (c .walk-from .last .1 .1 .1 .1 .1 .0) (walked-with .args .i) (walked-with .args .want) (walked-with .args .mask)
-      (walked-with .args .budget) (walked-with .args .t .placed) (walked-with .args .t .state)
-      (c .walk-from .result .placed) (c .walk-from .result .state)
+      (walked-with .args .budget) (walked-with .args .t .placed) (walked-with .args .t .builds)
+      (c .walk-from .result .placed) (c .walk-from .result .builds)
       (tries (able (walked-with .args .words .now) (walked-with .args .marks .now) (walked-with .args .i) (walked-with .args .want))
       (λ j. getD (walked-with .args .words .now) j 0) (getD (walked-with .args .words .now) (tries-it .at16 .result) 0)
       (part (walked-with .args .slots .now) (at-turn t tries-it .before .loop .k + 1)
-      (tried t (told t (asked t (at-turn t tries-it))) .before .before .due .result .hi)))
+      (tried t (with-key t (looked-up t (at-turn t tries-it))) .before .before .due .result .hi)))
   turned =
       let inv = at-turn t tries-it .before .loop .inv .0 in
       let at = turning t tries-it in
@@ -288,7 +289,7 @@ module _ (t : ℕ) (c : Called t) where
 
 -- nothing is left to try
 module _ (t : ℕ) (c : Ran-out t) where
-  abbrev ran-from : Asked t
+  abbrev ran-from : Looked-up t
   ran-from = c .before .before .before
 
 walk-from-returns : (t : ℕ)
@@ -354,7 +355,9 @@ walk-from-key-of-requires : (t : ℕ)
     → walk-from-lts.Need-key-of-requires (calls t) (walk-from-at t) walk-from.Post walk-from-Inv-loop walk-from-μ-loop
 walk-from-key-of-requires t c κs =
     let at = bounds t (c .before .before .before) in
-    list-below (ready t (placed-with t at)) (inside t (at-place t at)) (lo-is t at) (hi-is t at)
+    let card = ready t (placed-with t at) in
+    let there = inside t (at-place t at) in
+    (list-below card there (lo-is t at) (end-is t at), omega (arith, there, card .numbered))
 
 walk-from-recall-requires : (t : ℕ)
     → walk-from-lts.Need-recall-requires (calls t) (walk-from-at t) walk-from.Post walk-from-Inv-loop walk-from-μ-loop
@@ -362,7 +365,7 @@ walk-from-recall-requires t c κs = search needs
 
 walk-from-skipped-requires : (t : ℕ)
     → walk-from-lts.Need-skipped-requires (calls t) (walk-from-at t) walk-from.Post walk-from-Inv-loop walk-from-μ-loop
-walk-from-skipped-requires t c κs = ready t (keyed-with t (told t (c .before))) .within
+walk-from-skipped-requires t c κs = ready t (keyed-with t (with-key t (c .before))) .within
 
 walk-from-same-length-2 : (t : ℕ)
     → walk-from-lts.Need-same-length-2 (calls t) (walk-from-at t) walk-from.Post walk-from-Inv-loop walk-from-μ-loop
@@ -372,7 +375,7 @@ walk-from-returns-3 : (t : ℕ)
     → walk-from-lts.Need-returns-3 (calls t) (walk-from-at t) walk-from.Post walk-from-Inv-loop walk-from-μ-loop
 walk-from-returns-3 t c =
     let at = c .before .before in
-    let state = told t at in
+    let state = with-key t at in
     let call = keyed-with t state in (
       told-went (ready t call) (begins t (tried t state) .inside) (recalls t call) (keyed t state)
           (at .recall .ensures .told (c .before .if3 .taken)) (c .skipped .ensures),
@@ -382,7 +385,7 @@ walk-from-returns-3 t c =
 walk-from-loop-holds : (t : ℕ)
     → walk-from-lts.Need-loop-holds (calls t) (walk-from-at t) walk-from.Post walk-from-Inv-loop walk-from-μ-loop
 walk-from-loop-holds t c =
-    let state = told t (c .before) in
+    let state = with-key t (c .before) in
     (begins t (tried t state), recalls t (keyed-with t state))
 
 walk-from-same-length-3 : (t : ℕ)
@@ -528,7 +531,7 @@ walk-from-returns-6 : (t : ℕ)
 walk-from-returns-6 t c =
     let left = c .before .before in
     let inv = left .before .loop .inv in
-    let state = told t (ran-from t left) in
+    let state = with-key t (ran-from t left) in
     let went = held-end (inv .0 .held) (ahead-none _ _ _ _ _ (left .loop-test .left)) in
     (went, recalls-stored (ready t (keyed-with t state)) (inv .0 .inside) (inv .1) (keyed t state) went (c .remember .ensures))
 

@@ -6,7 +6,6 @@ use lib.ListN.{length}
 use lib.Seq.{length-take-le, take-at}
 use borrow.Author.Needs.{needs}
 use Rattle.sequence.proofs.LetterLaws.{pow-pos}
-use Rattle.memory.proofs.SlotLaws.{nothing-known}
 use Rattle.walk.proofs.RecallLaws.{recalls-none}
 use Rattle.walk.proofs.WholeLaws.{unmarked-first, ready-first, whole-walk}
 use Rattle.walk.proofs.walk.Statement.{statement}
@@ -85,7 +84,7 @@ walk-from-requires c κs =
       ready-first (at-start masking .pre .0) (filled clear .prepare .ensures)
           (unmarked-first _ (clear .unmark .ensures) (marks-room masking)) (length-take-le _ _ (marks-room masking)) _
           (length-take-le _ _ (first-room masking)),
-      recalls-none _ _ _ _ _ (sym (none .nothing .ensures .0)) (nothing-known (none .nothing .ensures .1)),
+      recalls-none _ _ _ _ _ (none .nothing .ensures),
     )
 
 outcome-of-requires : tie.Need-outcome-of-requires

@@ -6,8 +6,10 @@ use beside::answers::BuildAnswer;
 use beside::plain::Sound;
 use beside::{firmware, independent};
 use second::cards::Random;
+use second::entry::Stored;
 use second::letters::spell;
 use second::lists::Lists;
+use second::numbers::SPAN;
 use second::spans::{any_long, misread, sequence, widest, words_in};
 use second::verdict::Verdict;
 use second::walk::counted::Counted;
@@ -16,14 +18,13 @@ use crate::timing::{Beside, Operation, ROUNDS};
 
 /// The most entries of a card.
 const M: usize = 504;
-/// The letters that the sequences of long walks are made of; few of them make many equal words.
-const LETTERS: usize = 2;
 /// The budget of the program `build`.
 const BUDGET: u32 = 1_000_000;
 /// A budget that C would take minutes for.
 const LARGE: u32 = 4_000_000_000;
-/// The rounds that each side takes on a long walk.
+/// The rounds that each side takes on a long walk, and on one where nothing can be remembered.
 const LONG_ROUNDS: usize = 31;
+const FEW_ROUNDS: usize = 7;
 
 /// A span card, what it lists, and the budgets that the library and C walk it with.
 pub struct Sample {
@@ -38,30 +39,54 @@ pub struct Sample {
 /// Cards whose walk is only prepared, is easy, settles late, or does not settle.
 pub fn samples(random: &mut Random) -> Vec<Sample> {
     let mut samples = Vec::new();
-    for (l, letters) in [(2, LETTERS), (12, 4)] {
+    for (l, letters) in [(2, 2), (12, 4)] {
         let words = misread(random, l, M, letters);
         let lists = widest(random, l, &words);
         samples.push(Sample::new("only prepared", lists, 0));
     }
     for (l, m) in [(12, 60), (6, 120), (4, 252), (4, M), (6, M), (12, M)] {
-        let words = words_in(&sequence(random, l, m, 4), l);
-        let lists = widest(random, l, &words);
-        samples.push(Sample::new("easy", lists, BUDGET));
+        samples.push(Sample::new("easy", easy(random, l, m), BUDGET));
     }
     for (from, to) in [(10_000, 100_000), (100_000, BUDGET)] {
         for _ in 0..2 {
             let settles_late = |own: Option<u32>| own.is_some_and(|own| (from..to).contains(&own));
             let lists = long(random, settles_late);
-            samples.push(Sample::new("late", lists, BUDGET).long());
+            samples.push(Sample::new("settled late", lists, BUDGET).timed(LONG_ROUNDS));
         }
     }
     for _ in 0..3 {
         let lists = long(random, |own| own.is_none());
         let large = Sample::new("unsettled, C to 1000000", lists.clone(), LARGE);
-        samples.push(Sample::new("unsettled", lists, BUDGET).long());
-        samples.push(large.long());
+        samples.push(Sample::new("unsettled", lists, BUDGET).timed(LONG_ROUNDS));
+        samples.push(large.timed(LONG_ROUNDS));
     }
+    samples.push(Sample::new("crowded", crowd(), BUDGET).timed(FEW_ROUNDS));
     samples
+}
+
+/// Draws lists of a sequence until their walk makes fewer than m placements in vain.
+fn easy(random: &mut Random, l: usize, m: usize) -> Lists {
+    loop {
+        let words = words_in(&sequence(random, l, m, 4), l);
+        let lists = widest(random, l, &words);
+        let own = counted(&lists).placements();
+        if own.is_some_and(|own| own < 2 * m as u32) {
+            return lists;
+        }
+    }
+}
+
+/// Lists in which every word stands once or twice, all in one span: a list that is too long for a state to have a key.
+fn crowd() -> Lists {
+    let mut lists = Lists::empty(usize::from(SPAN), 4);
+    for entry in 0..M as u32 {
+        lists.push(Stored {
+            word: entry % 256,
+            one: 0,
+            two: 7,
+        });
+    }
+    lists
 }
 
 /// Draws lists until the placements of their walk are as wanted; there are none where no budget is as large.
@@ -99,9 +124,9 @@ impl Sample {
         }
     }
 
-    /// The same, to be walked fewer times.
-    fn long(mut self) -> Sample {
-        self.rounds = LONG_ROUNDS;
+    /// The same, timed in so many rounds.
+    fn timed(mut self, rounds: usize) -> Sample {
+        self.rounds = rounds;
         self
     }
 

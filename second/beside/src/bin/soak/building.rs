@@ -13,10 +13,10 @@ use second::walk::counted::Counted;
 use crate::lent::Lent;
 use crate::{card_changed, difference, hex, output_differs, Soak};
 
-/// The largest budget that is tried on a card which it does not settle.
+/// The largest budget that is tried, where `second` walks, on a card which it does not settle.
 const MOST: u32 = 100_000;
 /// A walk of more placements is made a few times alone.
-const LONG: u32 = 1000;
+const COSTLY: u32 = 1000;
 
 impl Soak {
     /// Makes the building calls on this card.
@@ -88,7 +88,7 @@ fn calls(random: &mut Random, card: &[u8]) -> Vec<(u32, usize)> {
                 calls.push((budget, enough(random, need)));
                 // A walk that is long is not made for the sake of a room alone.
                 let room = any_room(random, need);
-                if own.placements <= LONG || room < need {
+                if own.placements <= COSTLY || room < need {
                     calls.push((budget, room));
                 }
             }
@@ -108,7 +108,7 @@ fn budgets(random: &mut Random, own: &Found) -> Vec<u32> {
     match n {
         // Pair cards among others.
         0 => vec![0, 1, any, random.pick(&[7, 1000, u32::MAX])],
-        1..=LONG => vec![0, n - 1, n, n + 1, less, any],
+        1..=COSTLY => vec![0, n - 1, n, n + 1, less, any],
         _ => vec![n - 1, n, random.pick(&[0, less, n + 1, u32::MAX])],
     }
 }

@@ -33,7 +33,7 @@ const LONG_TURNS: usize = 40;
 /// The steps that lists are changed by before each of these turns.
 const STEPS: usize = 16;
 /// From so many calls on, no answer of a build may be missing.
-const ENOUGH: u64 = 100_000;
+const ENOUGH: u64 = 400_000;
 
 /// What has been compared so far, and how much is wanted.
 struct Soak {

@@ -1,44 +1,34 @@
--- Laws of slots: what one tells, and what is stored in one. Assumes nothing.
+-- Laws of cells: what one tells, and what is stored in one. Assumes nothing.
 use mathlib.Core.Path.{_≡_, refl, ap, _∙_}
 use mathlib.Core.Logic.{inl, inr, ⊎-elim}
 use mathlib.Core.List.{List}
-use Prim.Native.Nat.{ℕ, zero, suc, _+_, _*_, _-_, _≤_, _<_}
+use Prim.Native.Nat.{ℕ, _+_, _*_, _-_, _≤_, _<_}
 use native.Mathlib.Omega.{arith}
-use lib.ListN.{length, getD, set, replicate, length-set}
+use lib.ListN.{length, getD, set, length-set}
 use lib.Seq.{getD-set-same, getD-set-other}
 use Rattle.sequence.proofs.FillingLaws.{same-or-not}
-use Rattle.memory.specs.Memory.{slots, numbers, Told, Stored, Nothing}
+use Rattle.memory.specs.Memory.{cells, memoryLength, Told, Stored}
 
--- ---- zeros say nothing
+-- ---- a cell that is told
 
-zero-at : (n k : ℕ) → _≡_ {A = ℕ} (getD (replicate n 0) k 0) 0
-zero-at zero k = refl
-zero-at (suc n) zero = refl
-zero-at (suc n) (suc k) = zero-at n k
-
-pub nothing-known : {known : List ℕ} → known ≡ replicate numbers 0 → Nothing known
-nothing-known e = record { each = λ k. rw e (zero-at numbers k) }
-
--- ---- a slot that is told
-
-pub told-at : {known : List ℕ} (r at : ℕ) {key size : ℕ} → at ≡ 2 * r → r < slots → (key ≡ 0 → ⊥) → getD known at 0 ≡ key
+pub told-at : {known : List ℕ} (r at : ℕ) {key size : ℕ} → at ≡ 2 * r → r < cells → (key ≡ 0 → ⊥) → getD known at 0 ≡ key
     → getD known (at + 1) 0 ≡ size
     → Told known key size
 told-at r at is h some key-is size-is = record {
   some = omega arith;
-  slot = r;
+  cell = r;
   inside = h;
   key-is = rw is at key-is;
   size-is = rw is at size-is;
 }
 
--- ---- a slot that is stored
+-- ---- a cell that is stored
 
 module _ (known : List ℕ) (key placed state placed′ state′ : ℕ) where
   pub stored-none : Stored known known key placed state placed′ state′
   stored-none = record { all = refl; each = λ s h. inl (refl, refl) }
 
-  pub stored-new : (r : ℕ) → r < slots → length known ≡ numbers → state′ ≡ state → (key ≡ 0 → ⊥) → placed ≤ placed′
+  pub stored-new : (r : ℕ) → r < cells → length known ≡ memoryLength → state′ ≡ state → (key ≡ 0 → ⊥) → placed ≤ placed′
       → Stored known (set (set known (2 * r) key) (2 * r + 1) (placed′ - placed)) key placed state placed′ state′
   stored-new r h all same some grows = record {
     all = length-set with-key (2 * r + 1) size ∙ length-set known (2 * r) key;
