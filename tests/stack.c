@@ -113,14 +113,14 @@ static void full_span_card(uint16_t end_of_first)
 
 static size_t placements(void) { return belfrymist_build(card, length, 1000000, out, sizeof out).placements; }
 
-/* Takes up the card on which the walk has made 256 placements in vain before it goes down, so that it keeps states in memory at every depth. */
+/* Takes up the card on which the walk has made 512 placements in vain before it goes down, so that it keeps states in memory at every depth. */
 static int take_up_remembered(void)
 {
     size_t straight;
     full_span_card(0);
     straight = placements();
     full_span_card(7);
-    return placements() >= straight + 256;
+    return placements() >= straight + 512;
 }
 
 int main(int count, char **names)

@@ -28,11 +28,11 @@ module _ (known : List ℕ) (key placed state placed′ state′ : ℕ) where
   pub stored-none : Stored known known key placed state placed′ state′
   stored-none = record { all = refl; each = λ s h. inl (refl, refl) }
 
-  pub stored-new : (r : ℕ) → r < cells → length known ≡ memoryLength → state′ ≡ state → (key ≡ 0 → ⊥) → placed ≤ placed′
+  pub stored-new : (r : ℕ) → r < cells → length known ≡ memoryLength → state′ ≡ state → 0 < key → placed ≤ placed′
       → Stored known (set (set known (2 * r) key) (2 * r + 1) (placed′ - placed)) key placed state placed′ state′
   stored-new r h all same some grows = record {
     all = length-set with-key (2 * r + 1) size ∙ length-set known (2 * r) key;
-    each = λ s g. ⊎-elim (λ e. inr (same, omega arith, rw e key-there, rw e size-there)) (λ n. inl (key-other s n, size-other s n))
+    each = λ s g. ⊎-elim (λ e. inr (same, some, rw e key-there, rw e size-there)) (λ n. inl (key-other s n, size-other s n))
         (same-or-not s r);
   }
     where

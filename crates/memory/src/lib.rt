@@ -16,7 +16,7 @@ const BUCKETS: usize = 251;
 // A key and a size for each of them.
 pub const LENGTH: usize = 4 * BUCKETS;
 // A state has a key only once so many placements more were made than there are places before it: most cards are settled first.
-const PATIENCE: usize = 256;
+const PATIENCE: usize = 512;
 // The marks of so many entries are told in a key,
 const FEW_MARKS: usize = 16;
 // and have so many values.
@@ -114,14 +114,11 @@ fn cell_for(known: &[u64; LENGTH], key: u64, size: u64) -> usize
 
 // The state with that key is finished: where it completed no build, its placements are kept.
 pub fn remember(known: &mut [u64; LENGTH], key: u64, before: Tally, after: Tally)
-    requires { ⌜ (before .placed ≤ after .placed) × (length (now known) ≡ memoryLength) ⌝ }
+    requires { ⌜ (0 < key) × (before .placed ≤ after .placed) × (length (now known) ≡ memoryLength) ⌝ }
     ensures { λ _. ⌜
         Stored (now (known .entry)) (now (known .exit)) key (before .placed) (before .builds) (after .placed) (after .builds)
         ⌝ }
 {
-    if key == 0 {
-        return;
-    }
     if after.builds != before.builds {
         return;
     }

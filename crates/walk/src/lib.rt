@@ -219,6 +219,9 @@ fn walk_from(
         }
         k = next(slots, words, marks, k + 1, hi, i, want, w);
     }
+    if key == 0 {
+        return acc;
+    }
     memory::remember(known, key, t, acc);
     acc
 }

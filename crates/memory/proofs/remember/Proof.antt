@@ -6,17 +6,14 @@ use Rattle.memory.proofs.remember.Tie as tie
 
 -- ---- places, from the last to the start
 
-abbrev ended : tie.After-cell-for → tie.Else2
+abbrev ended : tie.After-cell-for → tie.Else1
 ended c = c .before .before .before .before
 
-abbrev keyed : tie.Else2 → tie.Else1
-keyed c = c .before .before .before
+abbrev start : tie.Else1 → tie.Start
+start c = c .before .before .before
 
 returns : tie.Need-returns
 returns c = stored-none _ _ _ _ _ _
-
-returns-2 : tie.Need-returns-2
-returns-2 c = stored-none _ _ _ _ _ _
 
 sub-size : tie.Need-sub-size
 sub-size c = search needs
@@ -45,18 +42,17 @@ mul-known-2 c = search needs
 element-write-known-2 : tie.Need-element-write-known-2
 element-write-known-2 c = search needs
 
-returns-3 : tie.Need-returns-3
-returns-3 c =
+returns-2 : tie.Need-returns-2
+returns-2 c =
     let at = ended c in
-    let asked = keyed at .before .pre in
-    stored-new _ _ _ _ _ _ (c .cell-for .result) (c .cell-for .ensures) (asked .1) (at .if2 .left) (keyed at .if1 .left) (asked .0)
+    let asked = start at .pre in
+    stored-new _ _ _ _ _ _ (c .cell-for .result) (c .cell-for .ensures) (asked .2) (at .if1 .left) (asked .0) (asked .1)
 
 pub remember-spec : {M : Type 1} → statement M
 remember-spec =
     tie.close
     (tie.spec
     returns
-    returns-2
     sub-size
     cast-size
     cell-for-requires
@@ -66,4 +62,4 @@ remember-spec =
     add-known
     mul-known-2
     element-write-known-2
-    returns-3)
+    returns-2)

@@ -514,22 +514,39 @@ walk-from-loop-again t c =
       at .walk-from .ensures .1,
     )
 
-walk-from-remember-requires : (t : ℕ)
-    → walk-from-lts.Need-remember-requires (calls t) (walk-from-at t) walk-from.Post walk-from-Inv-loop walk-from-μ-loop
-walk-from-remember-requires t c κs = let inv = c .before .before .loop .inv in (inv .0 .held .grows, inv .1 .all)
-
 walk-from-same-length-7 : (t : ℕ)
     → walk-from-lts.Need-same-length-7 (calls t) (walk-from-at t) walk-from.Post walk-from-Inv-loop walk-from-μ-loop
-walk-from-same-length-7 t c = ap length (c .before .before .before .loop .inv .0 .held .unmarked)
+walk-from-same-length-7 t c = ap length (c .before .before .loop .inv .0 .held .unmarked)
 
 walk-from-same-length-8 : (t : ℕ)
     → walk-from-lts.Need-same-length-8 (calls t) (walk-from-at t) walk-from.Post walk-from-Inv-loop walk-from-μ-loop
-walk-from-same-length-8 t c = c .before .before .before .loop .inv .0 .held .firsts
+walk-from-same-length-8 t c = c .before .before .loop .inv .0 .held .firsts
 
 walk-from-returns-6 : (t : ℕ)
     → walk-from-lts.Need-returns-6 (calls t) (walk-from-at t) walk-from.Post walk-from-Inv-loop walk-from-μ-loop
 walk-from-returns-6 t c =
-    let left = c .before .before in
+    let left = c .before in
+    let inv = left .before .loop .inv in
+    (held-end (inv .0 .held) (ahead-none _ _ _ _ _ (left .loop-test .left)), inv .1)
+
+walk-from-remember-requires : (t : ℕ)
+    → walk-from-lts.Need-remember-requires (calls t) (walk-from-at t) walk-from.Post walk-from-Inv-loop walk-from-μ-loop
+walk-from-remember-requires t c κs =
+    let inv = c .before .before .before .loop .inv in
+    (omega (arith, c .before .if6 .left), inv .0 .held .grows, inv .1 .all)
+
+walk-from-same-length-9 : (t : ℕ)
+    → walk-from-lts.Need-same-length-9 (calls t) (walk-from-at t) walk-from.Post walk-from-Inv-loop walk-from-μ-loop
+walk-from-same-length-9 t c = ap length (c .before .before .before .before .loop .inv .0 .held .unmarked)
+
+walk-from-same-length-10 : (t : ℕ)
+    → walk-from-lts.Need-same-length-10 (calls t) (walk-from-at t) walk-from.Post walk-from-Inv-loop walk-from-μ-loop
+walk-from-same-length-10 t c = c .before .before .before .before .loop .inv .0 .held .firsts
+
+walk-from-returns-7 : (t : ℕ)
+    → walk-from-lts.Need-returns-7 (calls t) (walk-from-at t) walk-from.Post walk-from-Inv-loop walk-from-μ-loop
+walk-from-returns-7 t c =
+    let left = c .before .before .before in
     let inv = left .before .loop .inv in
     let state = with-key t (ran-from t left) in
     let went = held-end (inv .0 .held) (ahead-none _ _ _ _ _ (left .loop-test .left)) in
@@ -578,7 +595,10 @@ pub +walk-from-spec : {M : Type 1} → statement M
     (walk-from-next-requires-2 t)
     (walk-from-loop-less t)
     (walk-from-loop-again t)
-    (walk-from-remember-requires t)
     (walk-from-same-length-7 t)
     (walk-from-same-length-8 t)
     (walk-from-returns-6 t)
+    (walk-from-remember-requires t)
+    (walk-from-same-length-9 t)
+    (walk-from-same-length-10 t)
+    (walk-from-returns-7 t)
