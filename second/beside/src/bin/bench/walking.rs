@@ -56,8 +56,8 @@ pub fn samples(random: &mut Random) -> Vec<Sample> {
     }
     for _ in 0..3 {
         let lists = long(random, |own| own.is_none());
-        let large = Sample::new("unsettled, C to 1000000", lists.clone(), LARGE);
-        samples.push(Sample::new("unsettled", lists, BUDGET).timed(LONG_ROUNDS));
+        let large = Sample::new("4000000000, C 1000000", lists.clone(), LARGE);
+        samples.push(Sample::new("unsettled, 1000000", lists, BUDGET).timed(LONG_ROUNDS));
         samples.push(large.timed(LONG_ROUNDS));
     }
     samples.push(Sample::new("crowded", crowd(), BUDGET).timed(FEW_ROUNDS));
