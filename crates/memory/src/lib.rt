@@ -13,7 +13,7 @@ use tally::Tally;
 pub const UNKNOWN: u64 = 18446744073709551615;
 // The buckets of the memory, of two cells each: a prime, so that keys spread.
 const BUCKETS: usize = 251;
-// A key and a size for each of them.
+// A key and a size for each cell.
 pub const LENGTH: usize = 4 * BUCKETS;
 // A state has a key only once so many placements more were made than there are places before it: most cards are settled first.
 const PATIENCE: usize = 512;
