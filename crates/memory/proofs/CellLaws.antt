@@ -24,12 +24,12 @@ told-at r at is h some key-is size-is = record {
 
 -- ---- a cell that is stored
 
-module _ (known : List ℕ) (key placed state placed′ state′ : ℕ) where
-  pub stored-none : Stored known known key placed state placed′ state′
+module _ (known : List ℕ) (key placed builds placed′ builds′ : ℕ) where
+  pub stored-none : Stored known known key placed builds placed′ builds′
   stored-none = record { all = refl; each = λ s h. inl (refl, refl) }
 
-  pub stored-new : (r : ℕ) → r < cells → length known ≡ memoryLength → state′ ≡ state → 0 < key → placed ≤ placed′
-      → Stored known (set (set known (2 * r) key) (2 * r + 1) (placed′ - placed)) key placed state placed′ state′
+  pub stored-new : (r : ℕ) → r < cells → length known ≡ memoryLength → builds′ ≡ builds → 0 < key → placed ≤ placed′
+      → Stored known (set (set known (2 * r) key) (2 * r + 1) (placed′ - placed)) key placed builds placed′ builds′
   stored-new r h all same some grows = record {
     all = length-set with-key (2 * r + 1) size ∙ length-set known (2 * r) key;
     each = λ s g. ⊎-elim (λ e. inr (same, some, rw e key-there, rw e size-there)) (λ n. inl (key-other s n, size-other s n))

@@ -86,8 +86,8 @@ pub record Recalled (known : List ℕ) (key r : ℕ) : Type 0 where
   pub told : r < unknown → Told known key r
 
 -- what `remember` promises: each cell is as it was, or has the key and the placements, where no build was completed
-pub record Stored (known known′ : List ℕ) (key placed state placed′ state′ : ℕ) : Type 0 where
+pub record Stored (known known′ : List ℕ) (key placed builds placed′ builds′ : ℕ) : Type 0 where
   pub all : length known′ ≡ length known
   pub each : (s : ℕ) → s < cells
       → ((getD known′ (2 * s) 0 ≡ getD known (2 * s) 0) × (getD known′ (2 * s + 1) 0 ≡ getD known (2 * s + 1) 0))
-      ⊎ ((state′ ≡ state) × (0 < key) × (getD known′ (2 * s) 0 ≡ key) × (placed + getD known′ (2 * s + 1) 0 ≡ placed′))
+      ⊎ ((builds′ ≡ builds) × (0 < key) × (getD known′ (2 * s) 0 ≡ key) × (placed + getD known′ (2 * s + 1) 0 ≡ placed′))

@@ -9,7 +9,7 @@ use lib.Dec.{eqb, leb}
 use borrow.Author.Tests.{leb-true, leb-false, lt-leb, eqb-false, ne-eqb}
 use Rattle.spans.specs.Run.{Run, searching, one, two, spent, reach, run}
 use Rattle.spans.proofs.Runs.{run-spent}
-use Rattle.memory.specs.Tally.{spentState}
+use Rattle.memory.specs.Tally.{outOfBudget}
 use Rattle.walk.specs.Going.{Shows, none-yet, one-build, two-builds, stopped}
 use Rattle.walk.specs.Recalling.{Dead, none, more}
 use Rattle.walk.proofs.RunLaws.{shows-spent}
@@ -33,7 +33,7 @@ abbrev stateOf : Run → ℕ
 stateOf (searching n) = 0
 stateOf (one vs n) = 1
 stateOf (two vs n) = 2
-stateOf spent = spentState
+stateOf spent = outOfBudget
 
 shows-state : {path first : List ℕ} {n state : ℕ} {r : Run} → Shows path n state first r → stateOf r ≡ state
 shows-state (none-yet e) = refl

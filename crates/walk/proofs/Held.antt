@@ -15,7 +15,7 @@ use Rattle.spans.specs.Walk.{walk}
 use Rattle.spans.specs.Run.{Run, spent, reach, run}
 use Rattle.tables.specs.Prepared.{part, listAt}
 use Rattle.sequence.specs.Lists.{In, keep}
-use Rattle.memory.specs.Tally.{spentState, Placed}
+use Rattle.memory.specs.Tally.{outOfBudget, Placed}
 use Rattle.walk.specs.Steps.{isLeft, left, able, isDue, opened, tries, ahead, noWord, Listed, Opened, Next}
 use Rattle.walk.specs.Going.{Shows, none-yet, one-build, two-builds, stopped, Ready, later-on, Sought, Went}
 use Rattle.walk.proofs.StepLaws.{in-part, opened-list, ahead-at}
@@ -108,7 +108,7 @@ module _ {words twos starts slots marks₀ first₀ marks first : List ℕ} {i w
   pub held-spent : {e : ℕ} {rest : List ℕ}
       → Held words twos starts slots marks₀ first₀ marks first i want mask budget placed₀ state₀ placed state (e ∷ rest)
       → state < 2 → placed ≡ budget
-      → Went words twos starts slots marks₀ first₀ marks first mask i want budget placed₀ state₀ budget spentState
+      → Went words twos starts slots marks₀ first₀ marks first mask i want budget placed₀ state₀ budget outOfBudget
   held-spent {e} {rest} h few at = record {
     unmarked = h .unmarked;
     firsts = h .firsts;
@@ -120,7 +120,7 @@ module _ {words twos starts slots marks₀ first₀ marks first : List ℕ} {i w
   }
     where
       ends : (l : ℕ) (ones path : List ℕ) (x : Run) → reach (length words) budget x (path ++ (getD words e 0 ∷ [])) ≡ spent
-          → Shows path budget spentState first (foldl (turn l words ones twos marks₀ i budget path) x (e ∷ rest))
+          → Shows path budget outOfBudget first (foldl (turn l words ones twos marks₀ i budget path) x (e ∷ rest))
       ends l ones path x q =
           rw (turn-spent l words ones twos marks₀ i budget path x e q)
           (rw (turns-spent l words ones twos marks₀ i budget path rest) stopped)

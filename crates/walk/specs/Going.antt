@@ -15,7 +15,7 @@ use lib.ListN.{length, getD, take}
 use Rattle.sequence.specs.Lists.{In}
 use Rattle.spans.specs.Walk.{walk}
 use Rattle.spans.specs.Run.{Run, searching, one, two, spent, run}
-use Rattle.memory.specs.Tally.{spentState}
+use Rattle.memory.specs.Tally.{outOfBudget}
 use Rattle.tables.specs.Spans.{mostNumbered, Spans}
 use Rattle.tables.specs.Prepared.{Prepared, listAt}
 use Rattle.walk.specs.Steps.{isLeft, left}
@@ -25,7 +25,7 @@ pub data Shows (path : List ℕ) : ℕ → ℕ → List ℕ → Run → Type 0 w
   none-yet : {n : ℕ} {first : List ℕ} → take (length path) first ≡ path → Shows path n 0 first (searching n)
   one-build : {n : ℕ} {first : List ℕ} → Shows path n 1 first (one first n)
   two-builds : {n : ℕ} {first : List ℕ} → Shows path n 2 first (two first n)
-  stopped : {n : ℕ} {first : List ℕ} → Shows path n spentState first spent
+  stopped : {n : ℕ} {first : List ℕ} → Shows path n outOfBudget first spent
 
 pub record Stands (words twos starts slots marks : List ℕ) (i : ℕ) : Type 0 where
   pub past : (k : ℕ) → k < length words → isLeft marks k ≡ true → i ≤ getD twos k 0

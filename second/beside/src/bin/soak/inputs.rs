@@ -3,10 +3,19 @@
 use second::cards::{damage, put_right, Random};
 use second::for_builds::any_sound_lists;
 use second::numbers::BLOCK;
+use second::spans::without_end;
 
 /// A sound card, as `second` writes it from lists of which most have a build.
 pub fn any_buildable_card(random: &mut Random) -> Vec<u8> {
-    any_sound_lists(random).card().expect("sound lists")
+    let lists = match random.once_in(4000) {
+        // The walk on such a card mostly takes more placements than any budget that is tried.
+        true => {
+            let (l, m) = random.pick(&[(2, 60), (2, 120), (3, 200), (4, 504)]);
+            without_end(random, l, m)
+        }
+        false => any_sound_lists(random),
+    };
+    lists.card().expect("sound lists")
 }
 
 /// A copy of a sound card that is damaged in some way; a few copies are still sound.

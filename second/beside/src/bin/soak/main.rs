@@ -33,7 +33,9 @@ const LONG_TURNS: usize = 40;
 /// The steps that lists are changed by before each of these turns.
 const STEPS: usize = 16;
 /// From so many calls on, no answer of a build may be missing.
-const ENOUGH: u64 = 400_000;
+const ENOUGH: u64 = 100_000;
+/// From so many calls on, none may be missing after a long walk.
+const ENOUGH_LONG: u64 = 400_000;
 
 /// What has been compared so far, and how much is wanted.
 struct Soak {
@@ -97,9 +99,12 @@ impl Soak {
     /// Says how often each answer came, and what a long run should not be without.
     fn report(&self) -> Result<(), String> {
         print!("{}", self.tally.lines());
-        match self.tally.missing() {
-            Some(what) if self.tally.calls() >= ENOUGH => Err(format!("no build was {what}")),
-            _ => Ok(()),
+        let calls = self.tally.calls();
+        let missing = self.tally.missing().filter(|_| calls >= ENOUGH);
+        let short = self.tally.missing_long().filter(|_| calls >= ENOUGH_LONG);
+        match missing.or(short) {
+            Some(what) => Err(format!("no build was {what}")),
+            None => Ok(()),
         }
     }
 }

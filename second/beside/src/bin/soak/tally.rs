@@ -83,11 +83,16 @@ impl Tally {
     /// An answer of a build that never came, if there is one.
     pub fn missing(&self) -> Option<String> {
         let builds = &self.answers[Operation::Build as usize];
-        // Where a verdict came after a long walk, it came.
-        let verdict = VERDICTS.iter().zip(self.long).find(|of| of.1 == 0);
+        let verdict = VERDICTS.iter().zip(self.verdicts).find(|of| of.1 == 0);
         let refusal = (1..=LAST_OF_BUILD).find(|&number| builds[number] == 0);
-        let verdict = verdict.map(|(name, _)| format!("{name} after a long walk"));
+        let verdict = verdict.map(|(name, _)| name.to_string());
         verdict.or(refusal.map(|number| format!("refused with {number}")))
+    }
+
+    /// A verdict that never came after a long walk, if there is one.
+    pub fn missing_long(&self) -> Option<String> {
+        let verdict = VERDICTS.iter().zip(self.long).find(|of| of.1 == 0);
+        verdict.map(|(name, _)| format!("{name} after a long walk"))
     }
 
     /// A line for each operation: its answers that are no refusal, and its refusals by number.
