@@ -8,7 +8,7 @@ use lib.ListN.{length, set, length-set}
 use lib.Seq.{getD-set-same, getD-set-other}
 use Rattle.pairs.specs.Arranged.{Pairs, Inside}
 use Rattle.pairs.specs.Chosen.{Upto}
-use Rattle.pairs.proofs.Places.{upto-more}
+use Rattle.pairs.proofs.Upto.{upto-more}
 use Rattle.following.specs.Following.{Trail, of}
 use Rattle.choosing.specs.Choosing.{Chooses, ChoosesAll}
 
@@ -28,7 +28,7 @@ module _ {c : Pairs} (i : Inside c) {put trail : List ℕ} {n k : ℕ} {words : 
         count = length-set words t w ∙ r .count;
         few = omega (arith, r .few, g .few);
         upto = upto-more c (of put) (of put′) (of words) (of (set words t w)) t k j i l
-            (λ x p. getD-set-other words t x w 0 (λ e. absurd (omega arith))) (r .upto) (rw here (g .good h));
+            (λ x p. getD-set-other words t x w 0 (λ e. absurd (omega arith))) (r .upto) (rw here (g .good h)) (g .few);
       }
     where
       here : of (set words t w) t ≡ w

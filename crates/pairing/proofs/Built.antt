@@ -2,13 +2,13 @@
 use mathlib.Core.Path.{_≡_, refl, sym, ap, _∙_}
 use mathlib.Core.Bool.{Bool, true, false, true≢false}
 use mathlib.Core.List.{List}
-use mathlib.Core.Logic.{_≢_, by-cases}
-use Prim.Native.Nat.{ℕ, zero, suc, _-_, _<_}
+use mathlib.Core.Logic.{by-cases}
+use Prim.Native.Nat.{ℕ, zero, suc, _<_}
 use native.Mathlib.Omega.{arith}
 use native.Mathlib.Decide.{decLt}
 use lib.ListN.{length, replicate, length-replicate, getD-replicate, List·getD-eq-default}
 use borrow.Author.Tests.{le-ltb}
-use Rattle.pairs.specs.Arranged.{Pairs}
+use Rattle.pairs.specs.Arranged.{Pairs, Inside}
 use Rattle.pairs.specs.Chosen.{Closed, Upto}
 use Rattle.following.specs.Following.{Trail, Card, Links, Ready, unplaced, of, pairsOf}
 use Rattle.pairs.specs.Chosen.{NoBuild}
@@ -16,7 +16,7 @@ use Rattle.choosing.specs.Choosing.{ChoosesAll}
 use Rattle.forcing.specs.Forcing.{Root, Roots}
 use Rattle.settling.specs.Settling.{SettlesAll}
 use Rattle.pairing.specs.Built.{Builds}
-use Rattle.pairs.proofs.Places.{upto-none, found}
+use Rattle.pairs.proofs.Upto.{upto-none, found}
 
 -- ---- the start: no entry has a place
 
@@ -52,11 +52,11 @@ blank-root {c} = record { closed = blank-closed; every = λ σ a e p h. absurd (
 
 -- ---- the answer
 
-pub builds-found : {c : Pairs} {put trail put′ words : List ℕ} {n k : ℕ} {ok ok′ : Bool} → ChoosesAll c put trail n ok k words → ok ≡ true
+pub builds-found : {c : Pairs} → Inside c → {put trail put′ words : List ℕ} {n k : ℕ} {ok ok′ : Bool} → ChoosesAll c put trail n ok k words → ok ≡ true
     → SettlesAll c put put′ ok′ → ok′ ≡ true → Builds c words k true
-builds-found {c} {put} {put′} {words} {k} g h d h′ =
+builds-found {c} i {put} {put′} {words} {k} g h d h′ =
     let y = d .good h′ in
-    record { yes = λ _. found c (of put) (of put′) (of words) k (g .good h) (y .0) (y .1); no = λ x. absurd (true≢false x) }
+    record { yes = λ _. found c (of put) (of put′) (of words) k i (g .good h) (y .0) (y .1); no = λ x. absurd (true≢false x) }
 
 pub builds-none : {c : Pairs} {words : List ℕ} {k : ℕ} → NoBuild c → Builds c words k false
 builds-none h = record { yes = λ x. absurd (true≢false (sym x)); no = λ _. h }

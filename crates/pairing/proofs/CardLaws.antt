@@ -2,7 +2,7 @@
 -- nothing.
 use mathlib.Core.Path.{_≡_, refl, sym, ap, _∙_}
 use mathlib.Core.Logic.{_⊎_, inl, inr, ⊎-map, ⊎-elim}
-use mathlib.Core.Bool.{Bool, cond}
+use mathlib.Core.Bool.{Bool, true, false, cond}
 use mathlib.Core.List.{List}
 use Prim.Native.Nat.{ℕ, suc, _+_, _*_, _-_, _/_, _^_, _<_}
 use native.Mathlib.Omega.{arith}
@@ -17,17 +17,20 @@ use Rattle.entries.specs.Slot.{slotFrom, entriesIn}
 use Rattle.entries.proofs.Allowed.{pair-entry, pair-below}
 use Rattle.entries.proofs.SlotLaws.{slot-from}
 use Rattle.sequence.specs.Lists.{In}
+use Rattle.sequence.specs.Build.{Build}
+use Rattle.sequence.specs.Many.{Many, howMany}
 use Rattle.sequence.proofs.LetterLaws.{overlap-is, is-overlap, mask-tail}
+use Rattle.sequence.proofs.ManyLaws.{many-none}
 use Rattle.pairs.specs.Arranged.{Stands}
 use Rattle.pairs.specs.Described.{Described}
 use Rattle.pairs.specs.Settling.{pairEntries}
 use Rattle.pairs.proofs.Reindexed.{in-index}
-use Rattle.pairs.proofs.Told.{found-worded, found-tells, none-tells}
+use Rattle.pairs.proofs.Told.{found-worded, found-many, found-tells, none-tells}
 use Rattle.following.specs.Following.{Card, pairsOf}
 use Rattle.following.proofs.ExclusionLaws.{inside-of}
 use Rattle.following.proofs.PlaceLaws.{slot-of}
 use Rattle.pairing.specs.Built.{Builds}
-use Rattle.pairing.specs.Paired.{PairCard, secondOf, PlacesFrom, Gives}
+use Rattle.pairing.specs.Paired.{PairCard, secondOf, PlacesFrom, powerBy, Gives}
 use Rattle.pairing.proofs.PlacesLaws.{allowed-two, two-allowed}
 
 -- entry number e of the card
@@ -101,12 +104,17 @@ module _ {l : ℕ} {words ones twos : List ℕ} (k : PairCard l words ones twos)
 
   pub gives : {ws : List ℕ} {n : ℕ} {found : Bool} → length ws ≡ length words → Builds (pairsOf at words mask) ws n found
       → Gives l (entriesIn words ones twos) found n ws
-  gives {ws} {n} all b =
+  gives {ws} {n} {found} all b =
       record {
         worded = λ h. found-worded described ws n all (b .yes h);
         told = λ h. found-tells described ws n all (b .yes h);
         none = λ h. none-tells described (b .no h);
+        many = counted found refl;
       }
+    where
+      counted : (f : Bool) → found ≡ f → Many (Build l (pairEntries (entriesIn words ones twos))) (howMany (powerBy f n))
+      counted true h = found-many described ws n (b .yes h)
+      counted false h = many-none (none-tells described (b .no h))
 
 -- the words of the card's entries have l letters
 pub entry-fits : {l : ℕ} {words ones twos : List ℕ} → PairCard l words ones twos → (e : Entry) → In e (pairEntries (entriesIn words ones twos))

@@ -1,10 +1,9 @@
--- What `pair` promises determines whether there is a build, the words of the first one, and whether there was a free choice; not how many
--- there were, nor what the lists for work hold. `Post` is the contract as it is read from the source. Assumes nothing.
+-- What `pair` promises determines whether there is a build, the words of the first one, and how many choices were free; not what the lists
+-- for work hold. `Post` is the contract as it is read from the source. Assumes nothing.
 use mathlib.Core.Path.{_≡_, refl, sym, ap, _∙_}
 use mathlib.Core.Bool.{Bool, true, false}
 use mathlib.Core.List.{List, []}
 use Prim.Native.Nat.{ℕ, zero, suc, _^_, _<_}
-use native.Mathlib.Omega.{arith}
 use contract.Lifetimes.{Lfts}
 use denote.Ref.{now}
 use denote.Triple.Clauses.{AtExit}
@@ -15,7 +14,9 @@ use Rattle.entries.specs.declared.Slot.{Slot}
 use Rattle.sequence.specs.Lists.{In}
 use Rattle.sequence.specs.Build.{spell, Build}
 use Rattle.sequence.specs.Verdict.{Verdict, sole, several, noBuild, Tells}
+use Rattle.sequence.specs.Many.{Many}
 use Rattle.sequence.proofs.BuildLaws.{worded-one}
+use Rattle.sequence.proofs.ManyLaws.{many-one, exponent-one}
 use Rattle.sequence.proofs.VerdictLaws.{tells-one}
 use Rattle.pairs.specs.Described.{verdictBy}
 use Rattle.pairs.specs.Settling.{pairEntries}
@@ -35,18 +36,6 @@ spelled-in : (k : ℕ) (s : List ℕ) → spelledIn (verdictBy k s) ≡ s
 unfolding spelledIn
 spelled-in zero s = refl
 spelled-in (suc k) s = refl
-
-isSole : Verdict → ℕ
-isSole (sole s) = 1
-isSole (several s) = 0
-isSole noBuild = 0
-
--- no free choice in the one is none in the other
-none-too : (k k′ : ℕ) (s t : List ℕ) → verdictBy k s ≡ verdictBy k′ t → k ≡ 0 → k′ ≡ 0
-unfolding isSole
-none-too zero zero s t e h = refl
-none-too zero (suc k′) s t e h = let z : _≡_ {A = ℕ} 1 0 = ap isSole e in absurd (omega arith)
-none-too (suc k) k′ s t e h = absurd (omega arith)
 
 -- the sequence of either verdict fits
 told-fits : (Fits : List ℕ → Type 0) (k : ℕ) (s : List ℕ) → Tells Fits (verdictBy k s) → Fits s
@@ -72,8 +61,11 @@ module _ {l k k′ : ℕ} {es : List Slot} {f f′ : Bool} {ws vs : List ℕ} (a
   same h =
       tells-one (Build l (pairEntries es)) (verdictBy k (spell l ws)) (verdictBy k′ (spell l vs)) (p .told h) (q .told (sym gives-found ∙ h))
 
-  pub gives-sole : f ≡ true → k ≡ 0 → k′ ≡ 0
-  gives-sole h = none-too k k′ (spell l ws) (spell l vs) (same h)
+  gives-choices : f ≡ true → k ≡ k′
+  gives-choices h =
+      let a : Many (Build l (pairEntries es)) (2 ^ k) = rw h at (p .many) in
+      let b : Many (Build l (pairEntries es)) (2 ^ k′) = rw (sym gives-found ∙ h) at (q .many) in
+      exponent-one k k′ (many-one a b)
 
   pub gives-words : f ≡ true → ws ≡ vs
   gives-words h =
@@ -86,9 +78,9 @@ pub pair-one : (κs : Lfts 10) (a : Dens κs pair-kinds.ps) (r r′ : resT pair-
     → pair-reads.Post κs a r e
     → pair-reads.Post κs a r′ e′
     → (r .found ≡ r′ .found)
-    × (r .found ≡ true → r .choices ≡ 0 → r′ .choices ≡ 0)
+    × (r .found ≡ true → r .choices ≡ r′ .choices)
     × (r .found ≡ true → take (length (now (a .1 .0))) (now (e .1 .1 .1 .1 .1 .1 .1 .1 .1 .1 .0)) ≡ take (length (now (a .1 .0)))
     (now (e′ .1 .1 .1 .1 .1 .1 .1 .1 .1 .1 .0)))
 pair-one κs a r r′ e e′ pre p q =
     let fits = entry-fits (pre .0) in
-    (gives-found fits p q, gives-sole fits p q, gives-words fits p q)
+    (gives-found fits p q, gives-choices fits p q, gives-words fits p q)

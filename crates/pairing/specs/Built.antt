@@ -8,7 +8,7 @@ use Rattle.pairs.specs.Arranged.{Pairs}
 use Rattle.pairs.specs.Chosen.{Found, NoBuild}
 use Rattle.following.specs.Following.{of}
 
--- the first build, with k 0 if it is the only one; or there is none
+-- the first build, of 2^k; or there is none
 pub record Builds (c : Pairs) (words : List ℕ) (k : ℕ) (found : Bool) : Type 0 where
   pub yes : found ≡ true → Found c (of words) k
   pub no : found ≡ false → NoBuild c

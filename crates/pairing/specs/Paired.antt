@@ -4,6 +4,7 @@
 --   PlacesFrom ones twos at         == `at` has the places of the entries, two for each
 --   Room, JustRoom m at last prev put trail count first
 --                                   == the lists that a caller lends have room for m entries
+--   powerBy found choices           == how many builds there are: two to the number of free choices, or no build
 --   Gives l es found choices ws     == what is found: ws are the words of the first build, after so many free choices, or there is no build
 -- Assumes nothing.
 use mathlib.Core.Path.{_≡_}
@@ -16,6 +17,7 @@ use Rattle.entries.specs.declared.Slot.{Slot}
 use Rattle.entries.specs.Fault.{mostLength, noPlace, pairHolds}
 use Rattle.sequence.specs.Build.{spell, Build, Worded}
 use Rattle.sequence.specs.Verdict.{Tells, noBuild}
+use Rattle.sequence.specs.Many.{Many, Power, two-to, no-build, howMany}
 use Rattle.pairs.specs.Described.{verdictBy}
 use Rattle.pairs.specs.Settling.{pairEntries}
 
@@ -56,7 +58,12 @@ pub record JustRoom (m : ℕ) (at last prev put trail count first : List ℕ) : 
   pub in-count : length count ≡ m
   pub in-first : length first ≡ m
 
+abbrev pub powerBy : Bool → ℕ → Power
+powerBy false choices = no-build
+powerBy true choices = two-to choices
+
 pub record Gives (l : ℕ) (es : List Slot) (found : Bool) (choices : ℕ) (ws : List ℕ) : Type 0 where
   pub worded : found ≡ true → Worded l (pairEntries es) ws
   pub told : found ≡ true → Tells (Build l (pairEntries es)) (verdictBy choices (spell l ws))
   pub none : found ≡ false → Tells (Build l (pairEntries es)) noBuild
+  pub many : Many (Build l (pairEntries es)) (howMany (powerBy found choices))

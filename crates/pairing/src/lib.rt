@@ -11,7 +11,7 @@ ghost use Rattle.forcing.specs.Forcing.{Root};
 ghost use Rattle.pairing.specs.Built.{Builds};
 ghost use Rattle.pairing.specs.Paired.{PairCard, secondOf, PlacesFrom, Room, JustRoom, Gives};
 
-// Whether there is a build, and how many choices of words were free: none where it is the only one.
+// Whether there is a build, and how many choices of words were free: there are two to that number of builds.
 pub struct Paired {
     pub found: bool,
     pub choices: usize,

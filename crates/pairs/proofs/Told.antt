@@ -1,5 +1,5 @@
--- What the method finds is the verdict on the card: the words of the first build, and whether there is another. Assumes nothing.
-use mathlib.Core.Path.{_≡_, refl, sym, ap, _∙_}
+-- What the method finds is the verdict on the card: the words of the first build, and how many there are. Assumes nothing.
+use mathlib.Core.Path.{_≡_, sym, ap, _∙_}
 use mathlib.Core.Logic.{_⊎_, inl, inr, ⊎-elim}
 use mathlib.Core.List.{List}
 use Prim.Native.Nat.{ℕ, zero, suc, _^_, _<_}
@@ -11,11 +11,13 @@ use Rattle.sequence.specs.Lists.{In}
 use Rattle.sequence.specs.Arrangement.{Arrangement, words}
 use Rattle.sequence.specs.Build.{spell, Build, Worded}
 use Rattle.sequence.specs.Verdict.{Before, noBuild, Tells}
-use Rattle.sequence.proofs.OrderLaws.{before-irr, first-differs}
+use Rattle.sequence.specs.Many.{Many}
+use Rattle.sequence.proofs.OrderLaws.{first-differs}
 use Rattle.sequence.proofs.SpellingLaws.{spell-before}
-use Rattle.sequence.proofs.BuildLaws.{words-length, arrangement-chained, worded-chained, worded-length, worded-build}
+use Rattle.sequence.proofs.BuildLaws.{words-length, arrangement-chained, worded-chained, worded-length, worded-one, worded-build}
+use Rattle.sequence.proofs.ManyLaws.{many-map, many-only, many-other, two-or-more}
 use Rattle.pairs.specs.Arranged.{Pairs, Arranged, Reads, Later}
-use Rattle.pairs.specs.Chosen.{Found}
+use Rattle.pairs.specs.Chosen.{Read, Found}
 use Rattle.pairs.specs.Described.{Described, verdictBy}
 use Rattle.pairs.proofs.Extends.{filled}
 use Rattle.pairs.proofs.Reindexed.{in-index}
@@ -71,44 +73,63 @@ module _ {l : ℕ} {es : List Entry} {c : Pairs} (d : Described l es c) where
         spell-before (worded-chained entry-fits w) (arrangement-chained entry-fits a) (worded-length w ∙ sym (words-length a))
         (later-before ws (words order) (worded-length w ∙ d .many) (ordered-length a) p x)
 
+-- ---- how many
+
+module _ {l : ℕ} {es : List Entry} {c : Pairs} (d : Described l es c) where
+  -- the words of an arrangement by place are those of one by order, and the other way round
+  read-worded : {ws : List ℕ} → Read c ws → Worded l es ws
+  read-worded {ws} x =
+      let o = arranged-ordered d (x .σ) (x .arranged) in
+      record {
+        order = o .order;
+        arrangement = o .arrangement;
+        in-order = reads-same d ws (words (o .order)) (x .many) (ordered-length d (o .arrangement)) (o .placed) (x .has);
+      }
+
+  build-read : {s : List ℕ} → Build l es s → (ws : List ℕ) × Read c ws × (s ≡ spell l ws)
+  build-read b =
+      let p = arrangement-placed d (b .arrangement) in (
+        words (b .order),
+        record {
+          σ = p .0;
+          arranged = p .1 .arranged;
+          many = ordered-length d (b .arrangement);
+          has = λ e h g. sym (p .1 .has e h);
+        },
+        b .spelled,
+      )
+
+  -- as many builds as there are lists of words
+  many-builds : {n : ℕ} → Many (Read c) n → Many (Build l es) n
+  many-builds =
+      many-map (spell l) (λ ws x. worded-build (read-worded x))
+      (λ ws vs x y. worded-one (entry-fits d) (read-worded x) (read-worded y)) (λ s b. build-read b)
+
 -- the words that were found are those of an arrangement
 pub found-worded : {l : ℕ} {es : List Entry} {c : Pairs} → Described l es c → (ws : List ℕ) (k : ℕ) → length ws ≡ c .m
     → Found c (λ t. getD ws t 0) k
     → Worded l es ws
-found-worded d ws k n f =
-    let o = arranged-ordered d (f .σ) (f .arranged) in
-    record {
-      order = o .order;
-      arrangement = o .arrangement;
-      in-order = reads-same d ws (words (o .order)) n (ordered-length d (o .arrangement)) (o .placed) (f .reads);
-    }
+found-worded d ws k n f = read-worded d (record { σ = f .σ; arranged = f .arranged; many = n; has = f .reads })
+
+-- two to the number of free choices
+pub found-many : {l : ℕ} {es : List Entry} {c : Pairs} → Described l es c → (ws : List ℕ) (k : ℕ) → Found c (λ t. getD ws t 0) k
+    → Many (Build l es) (2 ^ k)
+found-many d ws k f = many-builds d (f .many)
 
 -- the verdict: sole where there was no choice, or else several, with what the words spell
 pub found-tells : {l : ℕ} {es : List Entry} {c : Pairs} → Described l es c → (ws : List ℕ) (k : ℕ) → length ws ≡ c .m
     → Found c (λ t. getD ws t 0) k
     → Tells (Build l es) (verdictBy k (spell l ws))
-found-tells {l} {es} {c} d ws zero n f = (worded-build w, only)
-  where
-    w : Worded l es ws
-    w = found-worded d ws zero n f
-
-    only : (t : List ℕ) → Build l es t → t ≡ spell l ws
-    only t b =
-        let p = arrangement-placed d (b .arrangement) in
-        b .spelled ∙ reads-spelled d w (b .arrangement) (p .1) (f .alone refl (p .0) (p .1 .arranged))
-found-tells {l} {es} {c} d ws (suc k) n f = (worded-build w, another (f .others (omega arith)), first-of)
+found-tells {l} {es} d ws zero n f =
+    let b = worded-build (found-worded d ws zero n f) in (b, many-only (found-many d ws zero f) b)
+found-tells {l} {es} {c} d ws (suc k) n f = (
+  worded-build w,
+  many-other (two-or-more k) (found-many d ws (suc k) f) (spell l ws),
+  first-of,
+)
   where
     w : Worded l es ws
     w = found-worded d ws (suc k) n f
-
-    another : (τ : ℕ → ℕ) × Arranged c τ × Later c τ (c .m) (λ t. getD ws t 0) → (t : List ℕ) × Build l es t × (t ≡ spell l ws → ⊥)
-    another (τ, a, x) =
-        let o = arranged-ordered d τ a in
-        let b = later-spelled d w (o .arrangement) (o .placed) x in (
-          spell l (words (o .order)),
-          record { order = o .order; arrangement = o .arrangement; spelled = refl },
-          λ e. before-irr (spell l ws) (rw e at b),
-        )
 
     first-of : (t : List ℕ) → Build l es t → (t ≡ spell l ws) ⊎ Before (spell l ws) t
     first-of t b =

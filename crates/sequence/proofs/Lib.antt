@@ -9,8 +9,10 @@
 -- `BuildLaws`: the length of a build, and its words.
 -- `VerdictLaws`: true verdicts: there is one, and where more sequences fit it is no later.
 -- `WiderLaws`: a build of a card is one of each card that allows more.
+-- `ManyLaws`: how many sequences fit: one number, what a map does to it, and what the verdict has to do with it.
 -- `Enumerator`: all arrangements of a list of entries, by computation.
 -- `VerdictOf`: the verdict on a list of sequences, and on all arrangements, by computation.
+-- `ManyOf`: how many sequences a list has, and how many builds entries have, by computation.
 -- `Tables`: the tables of 01 from the definitions, through one statement over the list.
 pub mod TestLaws
 pub mod FillingLaws
@@ -22,6 +24,8 @@ pub mod SpellingLaws
 pub mod BuildLaws
 pub mod VerdictLaws
 pub mod WiderLaws
+pub mod ManyLaws
 pub mod Enumerator
 pub mod VerdictOf
+pub mod ManyOf
 pub mod Tables

@@ -1,10 +1,11 @@
 -- Laws of members, of taking one out of a list, of rising order, of pairing off and of lists by their parts. Assumes nothing.
 use mathlib.Core.Path.{_≡_, refl, ap, sym, _∙_, subst}
 use mathlib.Core.List.{List, [], _∷_, _++_, map, flatMap}
-use mathlib.Core.Logic.{_⊎_, inl, inr, ⊎-elim, ⊎-map}
+use mathlib.Core.Logic.{_⊎_, inl, inr, ⊎-elim, ⊎-map, by-cases}
 use mathlib.Core.Bool.{Bool, true, false, cond}
 use Prim.Native.Nat.{ℕ, zero, suc, _+_, _≤_, _<_}
 use native.Mathlib.Omega.{arith}
+use native.Mathlib.Decide.{ℕ-discrete}
 use lib.ListN.{length}
 use lib.Dec.{T}
 use Rattle.answers.specs.Row.{row}
@@ -177,6 +178,11 @@ module _ {A B : Type 0} where
   rising-map f mono (rises {x = a} {xs = l} up r) =
       rises {x = f a} (λ y h. let s = in-map f l h in rw (s .2) (mono a (s .0) (up (s .0) (s .1)))) (rising-map f mono r)
 
+  -- two maps of a list pair off
+  pub paired-map : {R : B → B → Type 0} (f g : A → B) (l : List A) → ((x : A) → In x l → R (f x) (g x)) → Paired R (map f l) (map g l)
+  paired-map f g [] each = nobody
+  paired-map f g (x ∷ l) each = pair (each x first) here here (paired-map f g l (λ y h. each y (later h)))
+
   pub flatMap-in : (f : A → List B) {x : A} {y : B} {l : List A} → In x l → In y (f x) → In y (flatMap f l)
   unfolding flatMap
   flatMap-in f (first {xs}) h = in-append-left (flatMap f xs) h
@@ -202,6 +208,13 @@ unfolding row
 in-row f k zero h = absurd (not-in-nil h)
 in-row f k (suc n) first = (k, omega arith, refl)
 in-row f k (suc n) (later h) = let s = in-row f (suc k) n h in (s .0, omega (arith, s .1), s .2)
+
+-- and each part is a member
+pub row-in : {A : Type 0} (f : ℕ → A) (k n i : ℕ) → k ≤ i → i < k + n → In (f i) (row f k n)
+unfolding row
+row-in f k zero i low high = absurd (omega arith)
+row-in f k (suc n) i low high =
+    by-cases (ℕ-discrete i k) (λ e. rw e first) (λ d. later (row-in f (suc k) n i (omega (arith, d)) (omega arith)))
 
 -- ---- choices
 

@@ -52,12 +52,12 @@ verdictOf (s ∷ ss) = joined s (verdictOf ss)
 -- ---- comparing
 
 -- what a comparison says
-abbrev Compared : List ℕ → List ℕ → Comparison → Type 0
+abbrev pub Compared : List ℕ → List ℕ → Comparison → Type 0
 Compared s t same = s ≡ t
 Compared s t before = Before s t
 Compared s t after = Before t s
 
-compared-says : (s t : List ℕ) → Compared s t (compared s t)
+pub compared-says : (s t : List ℕ) → Compared s t (compared s t)
 unfolding compared
 compared-says [] [] = refl
 compared-says [] (d ∷ t) = tt

@@ -1,4 +1,5 @@
 -- `pairing::decide` meets its contract: the calls in a row (proofs/Built.antt). Assumes nothing.
+use Rattle.following.proofs.ExclusionLaws.{inside-of}
 use Rattle.pairing.proofs.Built.{rooted, builds-found, builds-none}
 use borrow.Author.Needs.{needs}
 use Rattle.pairing.proofs.decide.Statement.{statement}
@@ -57,7 +58,9 @@ returns : tie.Need-returns
 returns c =
     let d = settled (c .before) in
     let t = past-chosen d in
-    builds-found (chosen (t .before) .choose-all .ensures) (t .if2 .taken) (d .settle-all .ensures) (c .if3 .taken)
+    let g = chosen (t .before) in
+    let pre = start (root-of (past-root g .before)) .pre in
+    builds-found (inside-of (pre .0 .card)) (g .choose-all .ensures) (t .if2 .taken) (d .settle-all .ensures) (c .if3 .taken)
 
 same-length-5 : tie.Need-same-length-5
 same-length-5 c = search needs
