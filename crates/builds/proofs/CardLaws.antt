@@ -81,7 +81,7 @@ module _ {card words ones twos words′ ones′ twos′ : List ℕ} {q : Admitte
       rw (listed-words did told, listed-ones did told, listed-twos did told)
       (record { hold = accepted-lists (its-accepted mostEntries card admitted) })
 
-  listed-entries : entriesIn (take (f .m) words′) (take (f .m) ones′) (take (f .m) twos′) ≡ slotsOn card
+  pub listed-entries : entriesIn (take (f .m) words′) (take (f .m) ones′) (take (f .m) twos′) ≡ slotsOn card
   listed-entries = rw (listed-words did told, listed-ones did told, listed-twos did told) (its-entries mostEntries card admitted)
 
   -- what is answered from the lists is answered from the card

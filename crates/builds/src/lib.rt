@@ -1,6 +1,6 @@
 // Build: from a lent card to its verdict and its sequence. The card is admitted once, into lists; then the room is tested, the method of
 // the card's kind is run over the lists, and the words that it finds are spelled. `build` has no `requires`: it tests its own input.
-mod methods;
+pub mod methods;
 
 ghost use mathlib.Core.Path.{_≡_};
 ghost use Prim.Native.Nat.{_+_, _≤_};

@@ -1,13 +1,12 @@
 // The two methods over lists that hold, each with lists of its own to work in, and the one that a card's kind takes.
 ghost use mathlib.Core.Path.{_≡_};
-ghost use mathlib.Core.List.{map};
 ghost use Prim.Native.Nat.{_≤_};
 ghost use lib.ListN.{length, take};
 ghost use Rattle.entries.specs.Slot.{entriesIn};
 ghost use Rattle.layout.specs.Bounds.{mostEntries};
 ghost use Rattle.pairs.specs.Settling.{pairEntries, Means};
 ghost use Rattle.tables.specs.Spans.{Spans};
-ghost use Rattle.pairing.specs.Paired.{PairCard};
+ghost use Rattle.pairing.specs.Paired.{PairCard, Gives};
 ghost use Rattle.walk.specs.Walked.{Right, Walks};
 ghost use Rattle.builds.specs.From.{Sound, Found};
 ghost use Rattle.builds.specs.Pairing.{foundAs};
@@ -73,7 +72,41 @@ fn found_as(p: Paired) -> Walked
     Walked::None(0)
 }
 
-// The method for the lists of a pair card.
+// The method for the lists of a pair card, with lists of its own to work in.
+pub fn find_pairs(l: usize, words: &[u32], ones: &[u16], twos: &[u16], found: &mut [u32]) -> Paired
+    requires { ⌜ PairCard l (now words) (now ones) (now twos) ⌝ }
+    requires { ⌜ (length (now words) ≤ mostEntries) × (length (now words) ≤ length (now found)) ⌝ }
+    ensures { λ r. ⌜
+        Gives
+        l
+        (entriesIn (now (words .entry)) (now (ones .entry)) (now (twos .entry)))
+        (r .found)
+        (r .choices)
+        (take (length (now (words .entry))) (now (found .exit)))
+        ⌝ }
+{
+    let mut at = [0; 2 * MOST];
+    let mut last = [0; MOST];
+    let mut prev = [0; 2 * MOST];
+    let mut put = [0; MOST];
+    let mut trail = [0; MOST];
+    let mut count = [0; MOST];
+    pairing::pair(
+        l,
+        words,
+        ones,
+        twos,
+        &mut at,
+        &mut last,
+        &mut prev,
+        &mut put,
+        &mut trail,
+        &mut count,
+        found,
+    )
+}
+
+// What the method for the lists of a pair card comes to.
 fn settle_pairs(l: usize, words: &[u32], ones: &[u16], twos: &[u16], found: &mut [u32]) -> Walked
     requires { ⌜ PairCard l (now words) (now ones) (now twos) ⌝ }
     requires { ⌜ (length (now words) ≤ mostEntries) × (length (now words) ≤ length (now found)) ⌝ }
@@ -86,25 +119,7 @@ fn settle_pairs(l: usize, words: &[u32], ones: &[u16], twos: &[u16], found: &mut
         (take (length (now (words .entry))) (now (found .exit)))
         ⌝ }
 {
-    let mut at = [0; 2 * MOST];
-    let mut last = [0; MOST];
-    let mut prev = [0; 2 * MOST];
-    let mut put = [0; MOST];
-    let mut trail = [0; MOST];
-    let mut count = [0; MOST];
-    found_as(pairing::pair(
-        l,
-        words,
-        ones,
-        twos,
-        &mut at,
-        &mut last,
-        &mut prev,
-        &mut put,
-        &mut trail,
-        &mut count,
-        found,
-    ))
+    found_as(find_pairs(l, words, ones, twos, found))
 }
 
 // The method of the card's kind. The words of the alphabetically first build are the first ones of `found`, where there is a build.
