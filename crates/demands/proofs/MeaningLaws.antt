@@ -1,14 +1,16 @@
 -- Laws of what build says of a card, by which the demands are read off. Assumes nothing.
 use mathlib.Core.Path.{_≡_, refl, sym, ap}
 use mathlib.Core.List.{List, map}
-use Prim.Native.Nat.{ℕ, _^_, _<_}
+use Prim.Native.Nat.{ℕ, _+_, _^_, _<_}
 use native.Mathlib.Omega.{arith}
 use lib.ListN.{length, length-map}
 use borrow.Author.Tests.{leb-true}
 use Rattle.answers.specs.declared.Refusal.{Refusal}
 use Rattle.answers.specs.Answer.{Answer, given, refused, first, sound}
-use Rattle.answers.proofs.RowLaws.{length-row}
+use Rattle.answers.specs.Row.{row}
+use Rattle.answers.proofs.RowLaws.{length-row, row-same}
 use Rattle.answers.proofs.Tests.{both}
+use Rattle.entries.specs.declared.Format.{Format}
 use Rattle.entries.specs.declared.Slot.{Slot}
 use Rattle.entries.specs.Entry.{entryOf}
 use Rattle.entries.specs.declared.Entry.{Entry}
@@ -16,6 +18,9 @@ use Rattle.entries.specs.Fault.{span, leastLength}
 use Rattle.entries.proofs.Laws.{sound-has}
 use Rattle.layout.specs.Bounds.{leastEntries, mostEntries}
 use Rattle.layout.specs.Layout.{toldBy, slotOf}
+use Rattle.layout.specs.Card.{cardOf}
+use Rattle.layout.proofs.CardLaws.{card-slot}
+use Rattle.layout.proofs.LaidLaws.{card-told}
 use Rattle.card.proofs.FetchingLaws.{admission-given}
 use Rattle.card.proofs.SoundLaws.{Reads, holds-reads}
 use Rattle.lists.proofs.Laws.{accepted-lists}
@@ -34,7 +39,7 @@ use Rattle.builds.specs.Building.{buildTests, slotsOn, entriesOn, Means, on-pai
 use Rattle.builds.specs.From.{Sound}
 use Rattle.builds.proofs.SoundLaws.{spans-entered}
 use Rattle.builds.proofs.CardLaws.{order-held, its-entries}
-use Rattle.demands.specs.Demanded.{PlacementsOf}
+use Rattle.demands.specs.Demanded.{Settles, PlacementsOf}
 
 -- ---- what an outcome means, whichever the kind
 
@@ -127,6 +132,12 @@ said-refused (given (settled (several s) j)) e = absurd (omega (arith, ap which 
 said-refused (given (settled noBuild j)) e = absurd (omega (arith, ap which e))
 said-refused (given (unsettled j)) e = absurd (omega (arith, ap which e))
 
+-- what settles a card is a verdict
+pub settles-given : (a : Answer Outcome) → Settles (answerOf a) → (v : Verdict) × (n : ℕ) × (a ≡ given (settled v n))
+settles-given (given (settled v n)) h = (v, n, refl)
+settles-given (given (unsettled n)) h = absurd h
+settles-given (refused n p) h = absurd h
+
 -- ---- what is said holds
 
 module _ {limit budget room : ℕ} {card : List ℕ} where
@@ -171,3 +182,10 @@ module _ (card : List ℕ) (room : ℕ) (e : first (buildTests mostEntries card 
       fits s h =
           let u = in-row (slotOf card) 0 (toldBy card .m) h in
           rw (u .2) (sound-has (toldBy card) (u .0) (slotOf card (u .0)) (reads .entries (u .0) (omega (arith, u .1))) .0)
+
+-- the entries of a card that is made of slots are these
+pub made-slots : (f : Format) (slots : ℕ → Slot) → slotsOn (cardOf f slots) ≡ row slots 0 (f .m)
+made-slots f slots =
+    rw (card-told f slots)
+    (row-same (slotOf (cardOf f slots)) slots 0 (f .m)
+    (λ e h. let here : 0 + e ≡ e = omega arith in rw here (card-slot f slots e h)))

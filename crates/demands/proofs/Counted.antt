@@ -1,0 +1,175 @@
+-- "For every pair card also report how many builds it has" (request 12), of `counting::count_card`. That the number is unique, and the
+-- same from the lists that a card is admitted into, stands in crates/counting/proofs/Determined.antt. Assumes nothing.
+use mathlib.Core.Path.{_≡_, refl, sym, ap, _∙_, subst}
+use mathlib.Core.List.{List, map}
+use Prim.Native.Nat.{ℕ, zero, suc}
+use native.Mathlib.Omega.{arith}
+use lib.Pow.{pow-pos}
+use lib.ListN.{length}
+use Rattle.answers.specs.Numbers.{Kind}
+use Rattle.answers.specs.Answer.{Answer, given, refused, first, sound}
+use Rattle.answers.proofs.Laws.{given-not-refused}
+use Rattle.entries.specs.Slot.{slotFrom}
+use Rattle.entries.specs.Fault.{pair, span}
+use Rattle.entries.specs.Entry.{entryOf, placesOf}
+use Rattle.layout.specs.Bounds.{mostEntries}
+use Rattle.layout.specs.Layout.{toldBy}
+use Rattle.layout.specs.Card.{cardOf}
+use Rattle.layout.proofs.LaidLaws.{card-told}
+use Rattle.card.specs.Reading.{readingOrder}
+use Rattle.lists.specs.Lists.{formatFor, listsTests}
+use Rattle.lists.proofs.Laws.{lists-accepted}
+use Rattle.writer.proofs.ReadBackLaws.{accepted-order}
+use Rattle.sequence.specs.Lists.{In}
+use Rattle.sequence.specs.Arrangement.{overlaps}
+use Rattle.sequence.specs.Build.{Build}
+use Rattle.sequence.specs.Verdict.{Verdict, sole, several, noBuild, Tells, settled}
+use Rattle.sequence.specs.Many.{Many, Power, two-to, no-build, howMany}
+use Rattle.sequence.specs.Tables.{storedIn}
+use Rattle.sequence.proofs.ManyLaws.{many-none, many-empty, NumberBy, many-by, exponent-one}
+use Rattle.sequence.proofs.ManyOf.{distinct, many-enumerated}
+use Rattle.sequence.proofs.Enumerator.{sequences}
+use Rattle.sequence.proofs.Tables.{map-agree}
+use Rattle.pairs.specs.Settling.{pairEntries}
+use Rattle.builds.specs.declared.BuildAnswer.{BuildAnswer}
+use Rattle.builds.specs.Building.{slotsOn, answerOf, Builds}
+use Rattle.builds.proofs.CardLaws.{order-held}
+use Rattle.counting.specs.declared.Number.{Number}
+use Rattle.counting.specs.declared.Number.the-variants as number
+use Rattle.counting.specs.Counting.{counts, refuses, OfCard, OfLists, numberOf, Counts}
+use Rattle.counting.proofs.CountingLaws.{tests-hold, hold-tests, span-refused, counted-one}
+use Rattle.counting.proofs.CardLaws.{other-tests}
+use Rattle.counting.proofs.count_card.Statement as count-card
+use Rattle.counting.proofs.count_card.Met as count-card-met
+use Rattle.counting.proofs.count_lists.Statement as count-lists
+use Rattle.counting.proofs.count_lists.Met as count-lists-met
+use Rattle.demands.specs.Demanded.{Fits, Settles, kindOf, OnCard}
+use Rattle.demands.specs.Counted.{NumberMeans, GoesWith, CountedTable, countedTables}
+use Rattle.demands.proofs.MeaningLaws.{settles-given, means-tells, says-holds, says-means, made-slots}
+
+-- ---- each call ends, with an answer that meets its contract
+
+pub count-ends : {M : Type 1} → count-card.statement M
+count-ends = count-card-met.met
+
+pub count-lists-end : {M : Type 1} → count-lists.statement M
+count-lists-end = count-lists-met.met
+
+-- ---- what the number means, both ways
+
+module _ (card : List ℕ) where
+  -- the entries of a pair card
+  as-pairs : toldBy card .kind ≡ pair → {n : ℕ} → Many (Build (toldBy card .l) (pairEntries (slotsOn card))) n → Many (Fits card) n
+  as-pairs kind {n} m = subst (λ (k : ℕ). Many (Build (toldBy card .l) (map (entryOf k) (slotsOn card))) n) (sym kind) m
+
+  of-pairs : toldBy card .kind ≡ pair → {n : ℕ} → Many (Fits card) n → Many (Build (toldBy card .l) (pairEntries (slotsOn card))) n
+  of-pairs kind {n} m = subst (λ (k : ℕ). Many (Build (toldBy card .l) (map (entryOf k) (slotsOn card))) n) kind m
+
+  said-means : {a : Answer Power} → OfCard mostEntries card a → NumberMeans card (numberOf a)
+  said-means (counts {p} e m) = let held = tests-hold (readingOrder mostEntries card) _ e in go p (held .0) (held .1) m
+    where
+      go : (p : Power) → first (readingOrder mostEntries card) sound ≡ given sound → toldBy card .kind ≡ pair
+          → Many (Build (toldBy card .l) (pairEntries (slotsOn card))) (howMany p)
+          → NumberMeans card (numberOf (given p))
+      go (two-to k) order kind m = (record { admitted = order; kind = kind }, as-pairs kind m)
+      go no-build order kind m = (record { admitted = order; kind = kind }, many-empty (as-pairs kind m))
+  said-means (refuses e) = e
+
+  pub number-means : {q : Number} → Counts numberOf (OfCard mostEntries card) q → NumberMeans card q
+  number-means c = rw (c .answer) (said-means (c .says))
+
+  pub means-number : (q : Number) → NumberMeans card q → Counts numberOf (OfCard mostEntries card) q
+  means-number (number.Power k) (on, m) =
+      record {
+        said = given (two-to k);
+        says = counts (hold-tests (readingOrder mostEntries card) _ (on .admitted) (on .kind)) (of-pairs (on .kind) m);
+        answer = refl;
+      }
+  means-number number.None (on, none) =
+      record {
+        said = given no-build;
+        says = counts (hold-tests (readingOrder mostEntries card) _ (on .admitted) (on .kind)) (of-pairs (on .kind) (many-none none));
+        answer = refl;
+      }
+  means-number (number.Refused r) e = record { said = refused (r .number) (r .place); says = refuses e; answer = refl }
+
+-- "Refusals: 5 on a span card."
+pub span-refused-5 : (card : List ℕ) {q : Number} → first (readingOrder mostEntries card) sound ≡ given sound → toldBy card .kind ≡ span
+    → Counts numberOf (OfCard mostEntries card) q
+    → q ≡ number.Refused (record { number = Kind; place = 0 })
+span-refused-5 card order kind c =
+    c .answer ∙ ap numberOf (counted-one (c .says) (refuses (span-refused (readingOrder mostEntries card) _ order kind)))
+
+-- lists that hold have the number of the card that the writer makes of them
+pub lists-as-card : (kind l : ℕ) (words ones twos : List ℕ) {q q′ : Number}
+    → first (listsTests mostEntries kind l words ones twos) sound ≡ given sound
+    → Counts numberOf (OfLists mostEntries kind l words ones twos) q
+    → Counts numberOf (OfCard mostEntries (cardOf (formatFor kind l words) (slotFrom words ones twos))) q′
+    → q ≡ q′
+lists-as-card kind l words ones twos hold c d =
+    let f = formatFor kind l words in
+    let slots = slotFrom words ones twos in
+    let order = accepted-order kind l words ones twos (lists-accepted hold) in
+    let on : OfCard mostEntries (cardOf f slots) (c .said) =
+    rw (made-slots f slots, card-told f slots) (other-tests hold order (c .says)) in
+    c .answer ∙ ap numberOf (counted-one on (d .says)) ∙ sym (d .answer)
+
+-- ---- it goes with build's verdict
+
+power-agrees : (v : Verdict) (p : Power) (n : ℕ) → NumberBy v (howMany p) → GoesWith (numberOf (given p)) (answerOf (given (settled v n)))
+power-agrees (sole s) (two-to k) n e = ap number.Power (exponent-one k 0 e)
+power-agrees (sole s) no-build n e = absurd (omega arith)
+power-agrees (several s) (two-to zero) n e = absurd (omega arith)
+power-agrees (several s) (two-to (suc k)) n e = (k, refl)
+power-agrees (several s) no-build n e = absurd (omega arith)
+power-agrees noBuild (two-to k) n e = absurd (omega (arith, e, pow-pos k))
+power-agrees noBuild no-build n e = refl
+
+pub number-agrees : {card before after : List ℕ} {budget : ℕ} {q : Number} {r : BuildAnswer} → toldBy card .kind ≡ pair
+    → Counts numberOf (OfCard mostEntries card) q
+    → Builds mostEntries card budget before r after
+    → Settles r
+    → GoesWith q r
+number-agrees {card} {before} kind c b settles =
+    let o = settles-given (b .said) (rw (b .answer) at settles) in
+    let says = rw (o .2) at (b .says) in
+    let order = order-held mostEntries card (length before) (says-holds says) in
+    rw (c .answer, b .answer, o .2) (go order (o .0) (o .1) (means-tells (says-means says)) (c .says))
+  where
+    go : first (readingOrder mostEntries card) sound ≡ given sound → (v : Verdict) (n : ℕ) → Tells (Fits card) v → {a : Answer Power}
+        → OfCard mostEntries card a
+        → GoesWith (numberOf a) (answerOf (given (settled v n)))
+    go order v n t (counts {p} e m) = power-agrees v p n (many-by v t (as-pairs card kind m))
+    go order v n t (refuses e) = absurd (given-not-refused (sym (hold-tests (readingOrder mostEntries card) _ order kind) ∙ e))
+
+-- ---- the pair tables
+
+all-counted : map (λ t. length (distinct (sequences 2 (t .table .entries)))) countedTables ≡ map (λ t. howMany (t .builds)) countedTables
+unfolding distinct sequences overlaps
+all-counted = refl
+
+-- P1 has two builds, P4 and P7 none, P5 one, two copies of P1 four
+pub tables-counted : (t : CountedTable) → In t countedTables → Many (Build 2 (t .table .entries)) (howMany (t .builds))
+tables-counted t h =
+    rw (map-agree (λ u. length (distinct (sequences 2 (u .table .entries)))) (λ u. howMany (u .builds)) h all-counted) at
+    (many-enumerated 2 (t .table .entries))
+
+all-stored : map (λ t. pairEntries (storedIn (t .table))) countedTables ≡ map (λ t. t .table .entries) countedTables
+unfolding entryOf placesOf
+all-stored = refl
+
+all-pairs : map (λ t. kindOf (t .table)) countedTables ≡ map (λ t. pair) countedTables
+all-pairs = refl
+
+-- what is answered for a card of a table
+pub table-number : {card : List ℕ} {q : Number} → Counts numberOf (OfCard mostEntries card) q
+    → first (readingOrder mostEntries card) sound ≡ given sound
+    → (t : CountedTable) → In t countedTables → OnCard (t .table) card
+    → q ≡ numberOf (given (t .builds))
+table-number {card} c order t h on =
+    let kind = on .kind ∙ map-agree (λ u. kindOf (u .table)) (λ u. pair) h all-pairs in
+    let same : pairEntries (storedIn (t .table)) ≡ t .table .entries =
+    map-agree (λ u. pairEntries (storedIn (u .table))) (λ u. u .table .entries) h all-stored in
+    let is : Many (Build (toldBy card .l) (pairEntries (slotsOn card))) (howMany (t .builds)) =
+    rw (on .letters, on .entries, same) (tables-counted t h) in
+    c .answer ∙ ap numberOf (counted-one (c .says) (counts {p = t .builds} (hold-tests (readingOrder mostEntries card) _ order kind) is))
