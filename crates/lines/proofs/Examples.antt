@@ -1,5 +1,5 @@
--- The two lines that 01 shows, "for the S1 card writes exactly", from the bytes of the card and all its builds; and the lines of the other
--- answers. Assumes nothing.
+-- The two lines that 01 shows, "for the S1 card writes exactly", from the bytes of the card and all its builds; the lines of the other
+-- answers; and those of `count_builds`. Assumes nothing.
 use mathlib.Core.Path.{_≡_, refl, sym, ap}
 use mathlib.Core.List.{List, [], _∷_, map}
 use Prim.Native.Nat.{_≤_}
@@ -21,6 +21,7 @@ use Rattle.card.proofs.Examples.{headOf, admissions, admissions-right}
 use Rattle.card.proofs.Examples as card
 use Rattle.sequence.specs.Lists.{first}
 use Rattle.sequence.specs.Verdict.{noBuild, Outcome, settled, unsettled}
+use Rattle.sequence.specs.Many.{two-to, no-build}
 use Rattle.sequence.specs.Tables.{storedIn, s1, p2}
 use Rattle.spans.specs.Settling.{Means}
 use Rattle.spans.proofs.Tables.{spans-settle}
@@ -28,6 +29,7 @@ use Rattle.builds.specs.Building.{lettersIn, slotsOn, tells, on-spans}
 use Rattle.builds.proofs.CardLaws.{has-room}
 use Rattle.text.specs.Text.{ascii, digitsIn, decimal}
 use Rattle.lines.specs.Lines.{programBudget, lettersRoom, kindName, cardLine, linesOf, Reports}
+use Rattle.lines.specs.CountLine.{countLine}
 
 -- ---- the S1 card
 
@@ -75,3 +77,10 @@ pub other-lines : map (linesOf (record { kind = pair; l = 12; m = 504 }))
     )
 unfolding linesOf cardLine kindName decimal digitsIn letters letterOf
 other-lines = refl
+
+-- ---- `count_builds`
+
+pub count-lines : map countLine (given (two-to 0) ∷ given (two-to 126) ∷ given no-build ∷ refused 5 0 ∷ refused 11 503 ∷ [])
+    ≡ (ascii "builds 2^0\n" ∷ ascii "builds 2^126\n" ∷ ascii "builds 0\n" ∷ ascii "refused 5 0\n" ∷ ascii "refused 11 503\n" ∷ [])
+unfolding countLine decimal digitsIn
+count-lines = refl

@@ -1,7 +1,9 @@
--- `LinesLaws`, `ReportLaws`: the lines as they are put, and the report. `LongInput`: the first bytes of the input are enough. `NeverRoom`:
--- 12 never comes. `Determined`: the contract has one outcome. `Examples`: the lines that 01 shows, and the others.
+-- `LinesLaws`, `ReportLaws`: the lines of `build` as they are put, and its report. `CountLaws`: the line of `count_builds`. `LongInput`: the
+-- first bytes of the input are enough. `NeverRoom`: 12 never comes. `Determined`: each contract has one outcome. `Examples`: the lines that 01
+-- shows, and the others.
 pub mod LinesLaws
 pub mod ReportLaws
+pub mod CountLaws
 pub mod LongInput
 pub mod NeverRoom
 pub mod Determined

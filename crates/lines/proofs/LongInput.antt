@@ -1,9 +1,9 @@
--- The first bytes of the input, one more than the longest card has, are enough: they give the report that all of it gives. The tests before
+-- The first bytes of the input, one more than the longest card has, are enough: they give the reports that all of it gives. The tests before
 -- 9 read block 0 alone, and where they hold 9 is due for both. Assumes nothing.
 use mathlib.Core.Path.{_≡_, refl, sym, ap, _∙_}
 use mathlib.Core.Logic.{⊎-elim}
 use mathlib.Core.List.{List, _++_}
-use Prim.Native.Nat.{ℕ, _+_, _<_}
+use Prim.Native.Nat.{ℕ, _<_}
 use native.Mathlib.Omega.{arith}
 use lib.ListN.{length, take}
 use lib.Seq.{take-take, take-all, length-take-le}
@@ -13,40 +13,53 @@ use Rattle.answers.specs.Answer.{Answer, given, refused, Sound, sound, first}
 use Rattle.answers.proofs.Laws.{first-pass, given-not-refused}
 use Rattle.block.specs.Block.{blockBytes, blockAt, blockTests}
 use Rattle.layout.specs.Layout.{formatOf, sizeOf}
-use Rattle.card.specs.Reading.{fieldTests, headTests}
+use Rattle.card.specs.Reading.{fieldTests, headTests, readingOrder}
 use Rattle.card.proofs.ReadingLaws.{head-has, reading-stops, size-wrong}
+use Rattle.sequence.specs.Many.{Power}
 use Rattle.sequence.specs.Verdict.{Outcome}
 use Rattle.sequence.proofs.FillingLaws.{lt-or-le}
-use Rattle.builds.specs.Building.{buildTests, Says, tells, refuses}
+use Rattle.builds.specs.Building.{Says, tells, refuses}
 use Rattle.builds.proofs.CardLaws.{reader-refuses}
-use Rattle.lines.specs.Lines.{programBytes, linesOf, Reports}
+use Rattle.counting.specs.Counting.{OfCard}
+use Rattle.counting.specs.Counting as counting
+use Rattle.counting.proofs.CountingLaws.{tests-refuse}
+use Rattle.input.specs.Input.{programBytes}
+use Rattle.lines.specs.Lines.{linesOf, Reports}
+use Rattle.lines.specs.CountLine.{CountReports}
 
--- the refusal of input that is longer than any card, by what block 0 gets
+-- ---- input that is longer than any card
+
+-- its refusal, by what block 0 gets
 abbrev refusalOf : Answer Sound → Answer Sound
 refusalOf (given s) = refused Size 0
 refusalOf (refused n p) = refused n p
 
-never-given : (a : Answer Sound) → refusalOf a ≡ given sound → ⊥
-never-given (given s) e = given-not-refused (sym e)
-never-given (refused n p) e = given-not-refused (sym e)
-
 module _ (limit : ℕ) (card : List ℕ) (long : sizeOf limit < length card) where
-  -- the tests of input that is longer than any card
-  long-refused : (room : ℕ) → first (buildTests limit card room) sound ≡ refusalOf (first (headTests limit card) sound)
-  long-refused room = go (first (headTests limit card) sound) refl
+  long-refused : first (readingOrder limit card) sound ≡ refusalOf (first (headTests limit card) sound)
+  long-refused = go (first (headTests limit card) sound) refl
     where
-      go : (a : Answer Sound) → first (headTests limit card) sound ≡ a → first (buildTests limit card room) sound ≡ refusalOf a
-      go (given sound) e =
-          let few = head-has limit card e .most in
-          reader-refuses limit card room (size-wrong limit card e (λ same. omega arith))
-      go (refused n p) e = reader-refuses limit card room (reading-stops limit card e)
+      go : (a : Answer Sound) → first (headTests limit card) sound ≡ a → first (readingOrder limit card) sound ≡ refusalOf a
+      go (given sound) e = let few = head-has limit card e .most in size-wrong limit card e (λ same. omega arith)
+      go (refused n p) e = reading-stops limit card e
 
   -- 1, and block 0
   head-tests : first (headTests limit card) sound ≡ first (blockTests (blockAt card 0) 0 ++ fieldTests limit (blockAt card 0)) sound
   unfolding headTests
   head-tests = first-pass _ _ _ _ _ (le-leb blockBytes (length card) (omega arith))
 
--- input, and its first bytes
+-- ---- input, and its first bytes
+
+-- the reader refuses both alike, and block 0 is the same
+record Alike (limit : ℕ) (card other : List ℕ) : Type 0 where
+  number : ℕ
+  place : ℕ
+  here : first (readingOrder limit card) sound ≡ refused number place
+  there : first (readingOrder limit other) sound ≡ refused number place
+  block : blockAt other 0 ≡ blockAt card 0
+
+turned : {limit : ℕ} {card other : List ℕ} → Alike limit card other → Alike limit other card
+turned a = record { number = a .number; place = a .place; here = a .there; there = a .here; block = sym (a .block) }
+
 module _ (limit : ℕ) (card : List ℕ) (long : sizeOf limit < length card) where
   abbrev front : List ℕ
   front = take (programBytes limit) card
@@ -64,41 +77,67 @@ module _ (limit : ℕ) (card : List ℕ) (long : sizeOf limit < length card) whe
       ∙ ap (λ (b : List ℕ). first (blockTests b 0 ++ fieldTests limit b) sound) same-block
       ∙ sym (head-tests limit card long)
 
-  same-tests : (room : ℕ) → first (buildTests limit front room) sound ≡ first (buildTests limit card room) sound
-  same-tests room = long-refused limit front front-long room ∙ ap refusalOf same-head ∙ sym (long-refused limit card long room)
+  same-order : first (readingOrder limit front) sound ≡ first (readingOrder limit card) sound
+  same-order = long-refused limit front front-long ∙ ap refusalOf same-head ∙ sym (long-refused limit card long)
 
--- what is said of one input that is longer than any card is said of another whose tests come to the same
-said-too : {limit budget room : ℕ} {card other : List ℕ} {a : Answer Outcome} → sizeOf limit < length card
-    → first (buildTests limit other room) sound ≡ first (buildTests limit card room) sound
-    → Says limit card budget room a
-    → Says limit other budget room a
-said-too {limit} {room} {card} long same (tells e means) =
-    absurd (never-given (first (headTests limit card) sound) (sym (long-refused limit card long room) ∙ e))
-said-too long same (refuses e) = refuses (same ∙ e)
+  front-alike : Alike limit card front
+  front-alike = go (first (headTests limit card) sound) (long-refused limit card long)
+    where
+      go : (a : Answer Sound) → first (readingOrder limit card) sound ≡ refusalOf a → Alike limit card front
+      go (given s) e = record { number = Size; place = 0; here = e; there = same-order ∙ e; block = same-block }
+      go (refused n p) e = record { number = n; place = p; here = e; there = same-order ∙ e; block = same-block }
 
-module _ (limit : ℕ) (card : List ℕ) {bytes : List ℕ} where
-  -- input that is longer than any card
-  pub long-as-front : sizeOf limit < length card → Reports limit card bytes → Reports limit (take (programBytes limit) card) bytes
-  long-as-front long reports = record {
-    said = reports .said;
-    says = said-too long (same-tests limit card long _) (reports .says);
-    printed = reports .printed ∙ ap (λ (b : List ℕ). linesOf (formatOf b) (reports .said)) (sym (same-block limit card long));
-  }
+-- input of any length: what is so of the one of two that are alike is so of its first bytes exactly if it is so of all of it
+module _ (limit : ℕ) {Is : List ℕ → Type 0} (too : (card other : List ℕ) → Alike limit card other → Is card → Is other)
+    (card : List ℕ) where
+  enough : Is (take (programBytes limit) card) → Is card
+  enough is =
+      ⊎-elim (λ long. too (take (programBytes limit) card) card (turned (front-alike limit card long)) is)
+      (λ short. rw (take-all (programBytes limit) card (omega arith)) at is) (lt-or-le (sizeOf limit) (length card))
 
-  pub front-as-long : sizeOf limit < length card → Reports limit (take (programBytes limit) card) bytes → Reports limit card bytes
-  front-as-long long reports = record {
-    said = reports .said;
-    says = said-too (front-long limit card long) (sym (same-tests limit card long _)) (reports .says);
-    printed = reports .printed ∙ ap (λ (b : List ℕ). linesOf (formatOf b) (reports .said)) (same-block limit card long);
-  }
-
-  -- input of any length: what is printed for its first bytes is what is printed for all of it, and nothing else is
-  pub front-enough : Reports limit (take (programBytes limit) card) bytes → Reports limit card bytes
-  front-enough reports =
-      ⊎-elim (λ long. front-as-long long reports) (λ short. rw (take-all (programBytes limit) card (omega arith)) at reports)
+  needed : Is card → Is (take (programBytes limit) card)
+  needed is =
+      ⊎-elim (λ long. too card (take (programBytes limit) card) (front-alike limit card long) is) (λ short. rw (take-all (programBytes limit) card (omega arith)) is)
       (lt-or-le (sizeOf limit) (length card))
+
+-- ---- `build`
+
+module _ {limit : ℕ} {card other : List ℕ} (alike : Alike limit card other) where
+  said-too : {budget room : ℕ} {a : Answer Outcome} → Says limit card budget room a → Says limit other budget room a
+  said-too {room} (tells e means) = absurd (given-not-refused (sym e ∙ reader-refuses limit card room (alike .here)))
+  said-too {room} (refuses e) =
+      refuses (reader-refuses limit other room (alike .there) ∙ sym (reader-refuses limit card room (alike .here)) ∙ e)
+
+  reports-too : {bytes : List ℕ} → Reports limit card bytes → Reports limit other bytes
+  reports-too r = record {
+    said = r .said;
+    says = said-too (r .says);
+    printed = r .printed ∙ ap (λ (b : List ℕ). linesOf (formatOf b) (r .said)) (sym (alike .block));
+  }
+
+-- what is printed for the first bytes is what is printed for all of it, and nothing else is
+module _ (limit : ℕ) (card : List ℕ) {bytes : List ℕ} where
+  pub front-enough : Reports limit (take (programBytes limit) card) bytes → Reports limit card bytes
+  front-enough = enough limit (λ one other alike. reports-too alike) card
 
   pub front-needed : Reports limit card bytes → Reports limit (take (programBytes limit) card) bytes
-  front-needed reports =
-      ⊎-elim (λ long. long-as-front long reports) (λ short. rw (take-all (programBytes limit) card (omega arith)) reports)
-      (lt-or-le (sizeOf limit) (length card))
+  front-needed = needed limit (λ one other alike. reports-too alike) card
+
+-- ---- `count_builds`
+
+module _ {limit : ℕ} {card other : List ℕ} (alike : Alike limit card other) where
+  counted-too : {a : Answer Power} → OfCard limit card a → OfCard limit other a
+  counted-too (counting.counts e m) = absurd (given-not-refused (sym e ∙ tests-refuse (readingOrder limit card) _ (alike .here)))
+  counted-too (counting.refuses e) =
+      counting.refuses
+      (tests-refuse (readingOrder limit other) _ (alike .there) ∙ sym (tests-refuse (readingOrder limit card) _ (alike .here)) ∙ e)
+
+  count-too : {bytes : List ℕ} → CountReports limit card bytes → CountReports limit other bytes
+  count-too r = record { said = r .said; says = counted-too (r .says); answer = r .answer }
+
+module _ (limit : ℕ) (card : List ℕ) {bytes : List ℕ} where
+  pub count-front-enough : CountReports limit (take (programBytes limit) card) bytes → CountReports limit card bytes
+  count-front-enough = enough limit (λ one other alike. count-too alike) card
+
+  pub count-front-needed : CountReports limit card bytes → CountReports limit (take (programBytes limit) card) bytes
+  count-front-needed = needed limit (λ one other alike. count-too alike) card

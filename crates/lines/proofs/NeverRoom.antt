@@ -26,6 +26,9 @@ use Rattle.sequence.specs.Verdict.{sole, several, noBuild, Outcome, settled, un
 use Rattle.sequence.proofs.FillingLaws.{lt-or-le}
 use Rattle.builds.specs.Building.{buildTests, Says, refuses}
 use Rattle.builds.proofs.CardLaws.{reader-refuses, has-room}
+use Rattle.counting.specs.Counting.{OfCard}
+use Rattle.counting.specs.Counting as counting
+use Rattle.counting.proofs.CountingLaws.{refusals}
 use Rattle.text.specs.Text.{ascii, digit, decimal}
 use Rattle.lines.specs.Lines.{programBudget, lettersRoom, cardLine, linesOf, Reports}
 use Rattle.text.proofs.DecimalLaws.{decimal-one, decimal-more}
@@ -86,6 +89,11 @@ module _ (limit : ℕ) (card : List ℕ) {n p : ℕ} where
 
 pub never-said : {limit p : ℕ} {card : List ℕ} → Says limit card programBudget (lettersRoom limit) (refused Room p) → ⊥
 never-said {limit} {card} (refuses e) = omega (arith, room-enough limit card e)
+
+-- nor from counting builds, which tests no room
+pub count-never-said : (limit : ℕ) (card : List ℕ) {n p : ℕ} → OfCard limit card (refused n p) → n < Room
+count-never-said limit card (counting.refuses e) =
+    ⊎-elim (below-refused (readingOrder limit card) (order-below limit card)) (λ h. omega (arith, h .1)) (refusals (readingOrder limit card) _ e)
 
 -- ---- nor is it printed
 

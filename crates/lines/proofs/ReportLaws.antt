@@ -3,15 +3,14 @@
 --   lengthIn r              == the length of the sequence that r tells
 --   IsGiven r               == r is no refusal
 -- No contract cites this file. Assumes nothing.
-use mathlib.Core.Path.{_≡_, refl, sym, ap, _∙_}
+use mathlib.Core.Path.{_≡_, refl, sym, _∙_}
 use mathlib.Core.List.{List, [], _∷_, _++_, map}
-use Prim.Native.Nat.{ℕ, _+_, _≤_}
+use Prim.Native.Nat.{ℕ, _≤_}
 use native.Mathlib.Omega.{arith}
 use lib.ListN.{length, take, drop, length-append, length-map}
 use Rattle.answers.specs.Answer.{Answer, given, refused}
 use Rattle.letters.specs.Letters.{letterOf}
 use Rattle.block.specs.Block.{blockBytes}
-use Rattle.block.proofs.PutLaws.{put-start}
 use Rattle.entries.specs.declared.Format.{Format}
 use Rattle.layout.specs.Layout.{toldBy}
 use Rattle.card.proofs.FetchingLaws.{order-admits}
@@ -21,16 +20,17 @@ use Rattle.builds.specs.declared.BuildAnswer.the-variants.{Sole, Several, None,
 use Rattle.builds.specs.Building.{Says, tells, refuses, answerOf, lettersAfter, Builds}
 use Rattle.builds.proofs.FromLaws.{letters-start}
 use Rattle.builds.proofs.CardLaws.{order-held}
-use Rattle.text.specs.Text.{ascii, decimal, line}
-use Rattle.lines.specs.Lines.{programBudget, lettersRoom, cardLine, linesOf, Reported}
+use Rattle.text.specs.Text.{ascii, decimal, line, Printed}
 use Rattle.text.specs.Putting.{Put}
+use Rattle.text.proofs.PrintedLaws.{put-printed}
+use Rattle.lines.specs.Lines.{programBudget, lettersRoom, cardLine, refusalLine, linesOf, Reports}
 
 abbrev pub linesBy : Format → BuildAnswer → List ℕ → List ℕ
 linesBy f (Sole n k) letters = cardLine f ++ line (ascii "sole") (take n letters ∷ decimal k ∷ [])
 linesBy f (Several n k) letters = cardLine f ++ line (ascii "several") (take n letters ∷ decimal k ∷ [])
 linesBy f (None k) letters = cardLine f ++ line (ascii "none") (decimal k ∷ [])
 linesBy f (Unsettled k) letters = cardLine f ++ line (ascii "unsettled") (decimal k ∷ [])
-linesBy f (Refused r) letters = line (ascii "refused") (decimal (r .number) ∷ decimal (r .place) ∷ [])
+linesBy f (Refused r) letters = refusalLine (r .number) (r .place)
 
 abbrev lengthIn : BuildAnswer → ℕ
 lengthIn (Sole n k) = n
@@ -88,22 +88,12 @@ module _ {limit : ℕ} {card before letters : List ℕ} {r a : BuildAnswer}
   letters-there = rw (said-as, built .output) (length-said before (built .said))
 
   pub reported : {out after : List ℕ} {n : ℕ} → length before ≡ lettersRoom limit → Put (linesBy (toldBy card) a letters) 0 out n after
-      → Reported limit card out n after
-  reported {out} {n} room put =
-      let bytes = linesBy (toldBy card) a letters in
-      let here : 0 + length bytes ≡ length bytes = omega arith in
-      record {
-        bytes = bytes;
-        reports = record {
-          said = built .said;
-          says = rw room at (built .says);
-          printed = rw (said-as, built .output) (lines-said (toldBy card) before (built .said));
-        };
-        count = put .ends ∙ here;
-        output = put .stands ∙ put-start out bytes ∙ ap (λ (k : ℕ). bytes ++ drop k out) (sym (put .ends ∙ here));
-      }
-
--- what is printed is a part of the buffer
-pub reported-fits : {limit n : ℕ} {card before after : List ℕ} → Reported limit card before n after → n ≤ length after
-reported-fits {n} {before} did =
-    omega (arith, did .count, ap length (did .output), length-append (did .bytes) (drop n before))
+      → Printed (Reports limit card) out n after
+  reported room put =
+      put-printed
+      (record {
+        said = built .said;
+        says = rw room at (built .says);
+        printed = rw (said-as, built .output) (lines-said (toldBy card) before (built .said));
+      })
+      put

@@ -1,3 +1,4 @@
--- `Lines` is what the program `build` prints, `Rooms` how many bytes its parts have.
+-- `Lines` is what the program `build` prints, `CountLine` what `count_builds` prints, `Rooms` how many bytes the parts have.
 pub mod Lines
+pub mod CountLine
 pub mod Rooms

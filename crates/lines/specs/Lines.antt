@@ -1,25 +1,22 @@
 -- What the program `build` prints (01, the end of "Twelve small tables"). `limit` is the most entries that a card may have.
 --   programBudget            == the budget that it builds with
 --   lettersRoom limit        == the room that it lends for the letters: those of the longest sequence
---   programBytes limit       == the most bytes that it reads (proofs/LongInput.antt: no more are needed)
 --   kindName kind            == `pair` or `span`
 --   cardLine f               == line 1, of a card of this format
+--   refusalLine n p          == the one line of a refusal
 --   linesOf f a              == all that is printed, where a is what is said of a card of this format
 --   Reports limit card bytes == what is printed for the card
---   Reported limit card before n after
---                            == that stands at the start of a buffer that was `before`, has n bytes, and is followed by the buffer's own
 -- Assumes nothing.
 use mathlib.Core.Path.{_≡_}
 use mathlib.Core.Bool.{cond}
 use mathlib.Core.List.{List, [], _∷_, _++_, map}
 use Prim.Native.Nat.{ℕ, _+_, _-_}
-use lib.ListN.{length, drop}
 use lib.Dec.{eqb}
 use Rattle.answers.specs.Answer.{Answer, given, refused}
 use Rattle.letters.specs.Letters.{letterOf}
 use Rattle.entries.specs.declared.Format.{Format}
 use Rattle.entries.specs.Fault.{pair, mostLength}
-use Rattle.layout.specs.Layout.{toldBy, sizeOf}
+use Rattle.layout.specs.Layout.{toldBy}
 use Rattle.sequence.specs.Verdict.{sole, several, noBuild, Outcome, settled, unsettled}
 use Rattle.builds.specs.Building.{Says}
 use Rattle.text.specs.Text.{ascii, decimal, line}
@@ -32,10 +29,6 @@ programBudget = 1000000
 abbrev pub lettersRoom : ℕ → ℕ
 lettersRoom limit = limit + mostLength - 1
 
--- "All of standard input is the card, so bytes after it give 9.": one byte more than the longest card has is enough to see that
-abbrev pub programBytes : ℕ → ℕ
-programBytes limit = sizeOf limit + 1
-
 -- "kind (`pair` or `span`)": an admitted card has one of the two kinds
 unfoldable pub kindName : ℕ → List ℕ
 kindName kind = cond (eqb kind pair) (ascii "pair") (ascii "span")
@@ -44,23 +37,20 @@ kindName kind = cond (eqb kind pair) (ascii "pair") (ascii "span")
 unfoldable pub cardLine : Format → List ℕ
 cardLine f = line (ascii "CARD") (kindName (f .kind) ∷ decimal (f .l) ∷ decimal (f .m) ∷ [])
 
--- "Line 2: verdict, sequence, placements. Other second lines are `sole` with the same fields, and `none` or `unsettled` with placements. A
--- refused card gives the one line `refused N P`, number and place."
+-- "A refused card gives the one line `refused N P`, number and place."
+abbrev pub refusalLine : ℕ → ℕ → List ℕ
+refusalLine n p = line (ascii "refused") (decimal n ∷ decimal p ∷ [])
+
+-- "Line 2: verdict, sequence, placements. Other second lines are `sole` with the same fields, and `none` or `unsettled` with placements."
 unfoldable pub linesOf : Format → Answer Outcome → List ℕ
 linesOf f (given (settled (sole s) n)) = cardLine f ++ line (ascii "sole") (map letterOf s ∷ decimal n ∷ [])
 linesOf f (given (settled (several s) n)) = cardLine f ++ line (ascii "several") (map letterOf s ∷ decimal n ∷ [])
 linesOf f (given (settled noBuild n)) = cardLine f ++ line (ascii "none") (decimal n ∷ [])
 linesOf f (given (unsettled n)) = cardLine f ++ line (ascii "unsettled") (decimal n ∷ [])
-linesOf f (refused n p) = line (ascii "refused") (decimal n ∷ decimal p ∷ [])
+linesOf f (refused n p) = refusalLine n p
 
 -- "The program `build` reads one card from standard input, uses budget 1,000,000, and […] writes"
 pub record Reports (limit : ℕ) (card bytes : List ℕ) : Type 0 where
   pub said : Answer Outcome
   pub says : Says limit card programBudget (lettersRoom limit) said
   pub printed : bytes ≡ linesOf (toldBy card) said
-
-pub record Reported (limit : ℕ) (card before : List ℕ) (n : ℕ) (after : List ℕ) : Type 0 where
-  pub bytes : List ℕ
-  pub reports : Reports limit card bytes
-  pub count : n ≡ length bytes
-  pub output : after ≡ bytes ++ drop n before

@@ -1,4 +1,4 @@
--- How many bytes the parts of the lines have: what the inner functions of `report` ask. A reader of its contract needs none of it.
+-- How many bytes the parts of the lines have: what the inner functions of both reports ask. A reader of their contracts needs none of it.
 -- Assumes nothing.
 use Prim.Native.Nat.{ℕ, _+_}
 use Rattle.text.specs.Putting.{mostDigits}
@@ -14,3 +14,7 @@ cardRoom = 5 + nameBytes + 3 + mostDigits + mostDigits
 -- the line of a refusal: `refused`, two numbers with a space before each, and the end
 abbrev pub refusalRoom : ℕ
 refusalRoom = 7 + 3 + mostDigits + mostDigits
+
+-- the line of a number of builds: `builds 2^`, the exponent, and the end
+abbrev pub powerRoom : ℕ
+powerRoom = 9 + mostDigits + 1

@@ -1,13 +1,16 @@
-// What the program `build` prints for a card: line 1 with its kind, l and m and line 2 with its verdict, or the one line of a refusal.
+// What the programs print for a card. `build`: line 1 with its kind, l and m and line 2 with its verdict, or the one line of a refusal.
+// `count_builds` has its own file.
+pub mod count;
+
 ghost use mathlib.Core.List.{[], _∷_, _++_};
 ghost use Prim.Native.Nat.{_+_, _≤_};
 ghost use lib.ListN.{length};
 ghost use Rattle.block.specs.Block.{blockBytes};
 ghost use Rattle.layout.specs.Layout.{toldBy};
 ghost use Rattle.layout.specs.Bounds.{mostEntries};
-ghost use Rattle.text.specs.Text.{ascii, decimal, line};
+ghost use Rattle.text.specs.Text.{decimal, line, Printed};
 ghost use Rattle.text.specs.Putting.{mostDigits, Put};
-ghost use Rattle.lines.specs.Lines.{kindName, cardLine, Reported};
+ghost use Rattle.lines.specs.Lines.{kindName, cardLine, refusalLine, Reports};
 ghost use Rattle.lines.specs.Rooms.{nameBytes, cardRoom, refusalRoom};
 use answers::Refusal;
 use builds::BuildAnswer;
@@ -65,11 +68,9 @@ fn put_placements(out: &mut [u8], at: usize, verdict: &[u8], n: u32) -> usize
 }
 
 // The one line of a refusal.
-fn put_refused(out: &mut [u8], r: Refusal) -> usize
+pub fn put_refused(out: &mut [u8], r: Refusal) -> usize
     requires { ⌜ refusalRoom ≤ length (now out) ⌝ }
-    ensures { λ n. ⌜
-        Put (line (ascii "refused") (decimal (r .number) ∷ decimal (r .place) ∷ [])) 0 (now (out .entry)) n (now (out .exit))
-        ⌝ }
+    ensures { λ n. ⌜ Put (refusalLine (r .number) (r .place)) 0 (now (out .entry)) n (now (out .exit)) ⌝ }
 {
     let number_at = text::put_text(out, 0, b"refused");
     text::put_two(out, number_at, r.number, r.place)
@@ -104,7 +105,7 @@ fn put_card_placements(out: &mut [u8], card: &[u8], verdict: &[u8], n: u32) -> u
 // What is printed for a card stands at the start of the buffer, whose later bytes are as they were; the answer is how many bytes it has.
 // The card is built from once, with room for the longest sequence.
 pub fn report(card: &[u8], out: &mut [u8; LINES]) -> usize
-    ensures { λ r. ⌜ Reported mostEntries (now (card .entry)) (now (out .entry)) r (now (out .exit)) ⌝ }
+    ensures { λ r. ⌜ Printed (Reports mostEntries (now (card .entry))) (now (out .entry)) r (now (out .exit)) ⌝ }
 {
     let mut letters = [0u8; LETTERS];
     match builds::build(card, BUDGET, &mut letters) {

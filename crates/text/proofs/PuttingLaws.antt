@@ -73,6 +73,9 @@ module _ {xs before out : List ℕ} {at to : ℕ} (put : Put xs at before to out
 
 -- ---- where numbers end
 
+pub digits-end : {x at to : ℕ} {before after : List ℕ} → x < 2 ^ 64 → Put (decimal x) at before to after → to ≤ at + mostDigits
+digits-end {x} h put = omega (arith, put .ends, decimal-few x h)
+
 pub number-ends : {x at to : ℕ} {before after : List ℕ} → x < 2 ^ 64 → Put (ascii " " ++ decimal x) at before to after
     → to ≤ at + 1 + mostDigits
 number-ends {x} h put = omega (arith, put .ends, decimal-few x h)

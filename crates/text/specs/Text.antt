@@ -2,11 +2,16 @@
 --   ascii text      == the bytes of a text
 --   decimal n       == the number n in decimal, with no needless zeros
 --   line f fs       == a line: the field f and the fields fs, with one space between two fields, and its end
+--   Printed Prints before n after
+--                   == what `Prints` says is printed stands at the start of a buffer that was `before`, has n bytes, and is followed by the
+--                      buffer's own
 -- Assumes nothing.
+use mathlib.Core.Path.{_≡_}
 use mathlib.Core.List.{List, [], _∷_, _++_}
 use Prim.Native.Nat.{ℕ, zero, suc, _+_, _/_, _%_}
 use Prim.Native.Char.{code}
 use Prim.Native.String.{String, [] as nothing, _∷_ as _then_}
+use lib.ListN.{length, drop}
 
 abbrev pub ascii : String → List ℕ
 ascii nothing = []
@@ -34,3 +39,9 @@ others (field ∷ fields) = ascii " " ++ (field ++ others fields)
 
 abbrev pub line : List ℕ → List (List ℕ) → List ℕ
 line field fields = field ++ others fields
+
+pub record Printed (Prints : List ℕ → Type 0) (before : List ℕ) (n : ℕ) (after : List ℕ) : Type 0 where
+  pub bytes : List ℕ
+  pub prints : Prints bytes
+  pub count : n ≡ length bytes
+  pub output : after ≡ bytes ++ drop n before

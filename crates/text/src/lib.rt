@@ -51,13 +51,22 @@ fn put_number(out: &mut [u8], at: usize, x: usize) -> usize
     put_digits(out, next, x)
 }
 
+// A number, and the line's end.
+pub fn put_end(out: &mut [u8], at: usize, x: usize) -> usize
+    requires { ⌜ at + 1 + mostDigits ≤ length (now out) ⌝ }
+    ensures { λ r. ⌜ Put (decimal x ++ ascii "\n") at (now (out .entry)) r (now (out .exit)) ⌝ }
+{
+    let next = put_digits(out, at, x);
+    put_text(out, next, b"\n")
+}
+
 // A number as the last field of a line, and the line's end.
 pub fn put_last(out: &mut [u8], at: usize, x: usize) -> usize
     requires { ⌜ at + 2 + mostDigits ≤ length (now out) ⌝ }
     ensures { λ r. ⌜ Put (others (decimal x ∷ [])) at (now (out .entry)) r (now (out .exit)) ⌝ }
 {
-    let next = put_number(out, at, x);
-    put_text(out, next, b"\n")
+    let next = put_text(out, at, b" ");
+    put_end(out, next, x)
 }
 
 // Two numbers as the last fields of a line, and the line's end.

@@ -1,0 +1,32 @@
+// What the program `count_builds` prints for a card: one line, with the number of its builds or with the refusal.
+ghost use Prim.Native.Nat.{_≤_};
+ghost use lib.ListN.{length};
+ghost use Rattle.layout.specs.Bounds.{mostEntries};
+ghost use Rattle.text.specs.Text.{Printed};
+ghost use Rattle.text.specs.Putting.{Put};
+ghost use Rattle.lines.specs.CountLine.{powerLine, CountReports};
+ghost use Rattle.lines.specs.Rooms.{powerRoom};
+use counting::Number;
+
+// Room for the line.
+pub const LINE: usize = 50;
+
+// The line of a card that has builds.
+fn put_power(out: &mut [u8], k: usize) -> usize
+    requires { ⌜ powerRoom ≤ length (now out) ⌝ }
+    ensures { λ r. ⌜ Put (powerLine k) 0 (now (out .entry)) r (now (out .exit)) ⌝ }
+{
+    let k_at = text::put_text(out, 0, b"builds 2^");
+    text::put_end(out, k_at, k)
+}
+
+// The line is at the start of the buffer, whose later bytes are as they were; the answer is how many bytes it has.
+pub fn report(card: &[u8], out: &mut [u8; LINE]) -> usize
+    ensures { λ r. ⌜ Printed (CountReports mostEntries (now (card .entry))) (now (out .entry)) r (now (out .exit)) ⌝ }
+{
+    match counting::count_card(card) {
+        Number::Power(k) => put_power(out, k),
+        Number::None => text::put_text(out, 0, b"builds 0\n"),
+        Number::Refused(r) => crate::put_refused(out, r),
+    }
+}
