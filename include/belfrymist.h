@@ -1,4 +1,4 @@
-/* Spectrum cards: admitting, reading and writing them, and building the sequence. For firmware, in C99 and in C++.
+/* Spectrum cards: admitting, reading and writing them, building the sequence, and counting builds. For firmware, in C99 and in C++.
  *
  * Link libfirmware.a, which `tests/archive FOLDER` writes for x86-64. Each function is proved to meet its contract, which stands over
  * the function of the same name in crates/firmware/src/. This file says the same in words; where the two differ, the contract is right.
@@ -40,9 +40,10 @@ enum {
     BELFRYMIST_NO_SECOND_PLACE = 65535  /* place two of an entry that has one place, on a pair card */
 };
 
-/* Bytes of stack that a call of belfrymist_build takes at most, and any other call: measured on x86-64 over the samples and the largest
- * cards of both kinds, and not proved. Building takes about 48,000 bytes, and on a span card 304 more for each entry that it places. */
-enum { BELFRYMIST_STACK = 204800, BELFRYMIST_STACK_READING = 512 };
+/* Bytes of stack that a call of belfrymist_build takes at most, one that counts builds, and any other call: measured on x86-64 over the
+ * samples and the largest cards of both kinds, and not proved. Building takes about 61,000 bytes on a pair card, and on a span card about
+ * 28,300 and 320 more for each entry that it places. */
+enum { BELFRYMIST_STACK = 196608, BELFRYMIST_STACK_COUNTING = 40960, BELFRYMIST_STACK_READING = 512 };
 
 /* The kinds of card. */
 enum { BELFRYMIST_PAIR = 1, BELFRYMIST_SPAN = 2 };
@@ -70,7 +71,7 @@ enum {
     BELFRYMIST_REFUSED_CHECK = 2,        /* a check byte of a block differs; the block */
     BELFRYMIST_REFUSED_INDEX = 3,        /* a block's index differs; the block */
     BELFRYMIST_REFUSED_FORM = 4,         /* the form is not 1; place 0 */
-    BELFRYMIST_REFUSED_KIND = 5,         /* the kind is neither 1 nor 2; place 0 */
+    BELFRYMIST_REFUSED_KIND = 5,         /* the kind is neither 1 nor 2, or a span card has its builds counted; place 0 */
     BELFRYMIST_REFUSED_WORD_LENGTH = 6,  /* l is outside 2 to 12; place 0 */
     BELFRYMIST_REFUSED_COUNT = 7,        /* m is outside 1 to 504; place 0 */
     BELFRYMIST_REFUSED_SPARE = 8,        /* a byte that must be zero is not; the block */
@@ -123,6 +124,12 @@ typedef struct {
     size_t placements; /* that the walk took; the budget, for unsettled; 0 on a pair card */
 } belfrymist_build_answer;
 
+typedef struct {
+    size_t number, place;
+    size_t any;      /* 1 where there is a build, 0 where there is none */
+    size_t exponent; /* there are two to this power; 0 where there is none */
+} belfrymist_count_answer;
+
 /* Admits a card: tests all of it, and answers its kind, l and m.
  * Refuses, the first of these that holds: 1; in block 0: 2, 3, 4, 5, 6, 7, 8; 9; then in each later block in turn: 2, 3, its entries in
  * turn (10 before 11), 8. These are "the reader's refusals" below.
@@ -162,6 +169,18 @@ belfrymist_write_answer belfrymist_write(size_t kind, size_t l, const uint32_t *
  * Refuses: the reader's refusals, then 12 where out has fewer than m + l - 1 bytes, whichever verdict would follow.
  * BELFRYMIST_MOST_SEQUENCE bytes are room for every card. */
 belfrymist_build_answer belfrymist_build(const uint8_t *card, size_t card_len, uint32_t budget, uint8_t *out, size_t out_len);
+
+/* How many builds a pair card has: none, or a power of two, whose exponent is given (a full card may have more than a size_t holds). A build is
+ * a sequence, so that two ways that only exchange equal words are one. belfrymist_build says sole of such a card exactly where the exponent
+ * is 0, several where it is above 0, and none where there is no build. There is no output and no budget.
+ * Refuses: the reader's refusals, then 5 on a span card, of which no number is given. */
+belfrymist_count_answer belfrymist_count(const uint8_t *card, size_t card_len);
+
+/* The same of the card of this kind and l whose entry i is words[i], ones[i], twos[i], as belfrymist_write takes them.
+ * Refuses, the first of these that holds: 5 where the kind is neither 1 nor 2; 6; 13; 7; each entry in turn, 10 before 11; then 5 where the
+ * kind is span. */
+belfrymist_count_answer belfrymist_count_lists(size_t kind, size_t l, const uint32_t *words, size_t words_len, const uint16_t *ones,
+                                               size_t ones_len, const uint16_t *twos, size_t twos_len);
 
 #ifdef __cplusplus
 }

@@ -1,5 +1,5 @@
-/* header FOLDER: calls every function of include/belfrymist.h through it, on the cards S1, P1 and S5 of FOLDER, and looks at each answer
- * and at every byte of each output. What is expected is stated here, from the scope document. */
+/* header FOLDER: calls every function of include/belfrymist.h through it, on the cards S1, P1, P4 and S5 of FOLDER, and looks at each
+ * answer and at every byte of each output. What is expected is stated here, from the scope document and request 12. */
 #include <stdio.h>
 #include <stdlib.h>
 #include <string.h>
@@ -15,6 +15,7 @@ FIELDS(belfrymist_held_answer, 2);
 FIELDS(belfrymist_part_answer, 2);
 FIELDS(belfrymist_write_answer, 3);
 FIELDS(belfrymist_build_answer, 5);
+FIELDS(belfrymist_count_answer, 4);
 
 enum { CARD = 1024, GUARD = 64, UNTOUCHED = 0xA5 };
 
@@ -142,20 +143,48 @@ static void building(const uint8_t *s1, const uint8_t *p1, const uint8_t *s5)
     WANT(memcmp(out, "ACAGA", 5) == 0 && untouched(out, 5, sizeof out));
 }
 
+static void counting(const uint8_t *s1, const uint8_t *p1, const uint8_t *p4)
+{
+    static const uint32_t words[] = {1, 4, 2, 8}, equal[] = {0, 0};
+    static const uint16_t ones[] = {0, 1, 0, 1}, twos[] = {2, 3, 2, 3}, wide[] = {2, 3, 2, 4}, zeros[] = {0, 0}, next[] = {1, 1};
+
+    ANSWERS(belfrymist_count_answer, belfrymist_count(p1, CARD), 0, 0, 1, 1);
+    ANSWERS(belfrymist_count_answer, belfrymist_count(p4, CARD), 0, 0, 0, 0);
+    ANSWERS(belfrymist_count_answer, belfrymist_count(s1, CARD), BELFRYMIST_REFUSED_KIND, 0, 0, 0);
+    ANSWERS(belfrymist_count_answer, belfrymist_count(s1, CARD - 1), BELFRYMIST_REFUSED_SIZE, 0, 0, 0);
+    ANSWERS(belfrymist_count_answer, belfrymist_count(NULL, 0), BELFRYMIST_REFUSED_SHORT, 0, 0, 0);
+
+    ANSWERS(belfrymist_count_answer, belfrymist_count_lists(BELFRYMIST_PAIR, 2, words, 4, ones, 4, twos, 4), 0, 0, 1, 1);
+    /* AC and CA at 0 or 1 spell ACA and CAC; AA and AA spell AAA either way. */
+    ANSWERS(belfrymist_count_answer, belfrymist_count_lists(BELFRYMIST_PAIR, 2, words, 2, zeros, 2, next, 2), 0, 0, 1, 1);
+    ANSWERS(belfrymist_count_answer, belfrymist_count_lists(BELFRYMIST_PAIR, 2, equal, 2, zeros, 2, next, 2), 0, 0, 1, 0);
+    ANSWERS(belfrymist_count_answer, belfrymist_count_lists(BELFRYMIST_SPAN, 2, words, 4, ones, 4, twos, 4), BELFRYMIST_REFUSED_KIND, 0, 0,
+            0);
+    ANSWERS(belfrymist_count_answer, belfrymist_count_lists(BELFRYMIST_SPAN, 2, words, 4, ones, 4, wide, 4), BELFRYMIST_REFUSED_PLACES, 3,
+            0, 0);
+    ANSWERS(belfrymist_count_answer, belfrymist_count_lists(3, 1, words, 4, ones, 4, twos, 3), BELFRYMIST_REFUSED_KIND, 0, 0, 0);
+    ANSWERS(belfrymist_count_answer, belfrymist_count_lists(BELFRYMIST_PAIR, 2, words, 4, ones, 4, twos, 3), BELFRYMIST_REFUSED_LISTS, 0, 0,
+            0);
+    ANSWERS(belfrymist_count_answer, belfrymist_count_lists(BELFRYMIST_PAIR, 2, NULL, 0, NULL, 0, NULL, 0), BELFRYMIST_REFUSED_COUNT, 0, 0,
+            0);
+}
+
 int main(int count, char **arguments)
 {
-    uint8_t s1[CARD], p1[CARD], s5[CARD], s1_before[CARD];
+    uint8_t s1[CARD], p1[CARD], p4[CARD], s5[CARD], s1_before[CARD];
 
     if (count != 2)
         return 2;
     read_card(arguments[1], "s1", s1);
     read_card(arguments[1], "p1", p1);
+    read_card(arguments[1], "p4", p4);
     read_card(arguments[1], "s5", s5);
     memcpy(s1_before, s1, CARD);
     reading(s1);
     blocks(s1);
     writing(s1);
     building(s1, p1, s5);
+    counting(s1, p1, p4);
     WANT(memcmp(s1, s1_before, CARD) == 0);
     printf("header: %d asked, %d wrong\n", asked, wrong);
     return wrong != 0;

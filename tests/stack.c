@@ -52,6 +52,8 @@ static void companion(void) { seen = belfrymist_companion(card, length, 1).numbe
 static void fetch(void) { seen = belfrymist_fetch(card, length, 1).length; }
 static void written(void) { seen = belfrymist_write(kind, l, words, m, ones, m, twos, m, out, sizeof out).length; }
 static void build(void) { seen = belfrymist_build(card, length, 1000000, out, sizeof out).verdict; }
+static void count_card(void) { seen = belfrymist_count(card, length).any; }
+static void count_lists(void) { seen = belfrymist_count_lists(kind, l, words, m, ones, m, twos, m).any; }
 
 /* Takes up a card that stands in `card`, its entries in the lists. */
 static void take_up(void)
@@ -69,18 +71,29 @@ static void take_up(void)
     }
 }
 
-static size_t most_reading, most_building;
+static size_t most_reading, most_building, most_counting;
+
+/* The most that any of the calls takes, or what was the most before. */
+static size_t most_of(size_t most, void (*const *calls)(void), size_t count)
+{
+    size_t i;
+    for (i = 0; i < count; i++) {
+        size_t n = taken(calls[i]);
+        most = n > most ? n : most;
+    }
+    return most;
+}
 
 static void measure(void)
 {
+    static void (*const building[])(void) = {build}, (*const counting[])(void) = {count_card, count_lists};
     static void (*const reading[])(void) = {admit, entry, step, companion, fetch, written};
-    size_t i, n = taken(build);
+    most_building = most_of(most_building, building, 1);
     take_up();
-    most_building = n > most_building ? n : most_building;
-    for (i = 0; m > 0 && i < sizeof reading / sizeof *reading; i++) {
-        n = taken(reading[i]);
-        most_reading = n > most_reading ? n : most_reading;
-    }
+    if (m == 0)
+        return;
+    most_counting = most_of(most_counting, counting, 2);
+    most_reading = most_of(most_reading, reading, sizeof reading / sizeof *reading);
 }
 
 /* A full pair card: the words of A and C by turns, each at its own place or two places on. */
@@ -139,7 +152,7 @@ int main(int count, char **names)
     if (!take_up_remembered())
         return 3;
     measure();
-    printf("stack: at most %zu bytes to build, and %zu for other calls; the header says %d and %d\n", most_building, most_reading,
-           BELFRYMIST_STACK, BELFRYMIST_STACK_READING);
-    return !(most_building <= BELFRYMIST_STACK && most_reading <= BELFRYMIST_STACK_READING);
+    printf("stack: at most %zu bytes to build, %zu to count and %zu for other calls; the header says %d, %d and %d\n", most_building,
+           most_counting, most_reading, BELFRYMIST_STACK, BELFRYMIST_STACK_COUNTING, BELFRYMIST_STACK_READING);
+    return !(most_building <= BELFRYMIST_STACK && most_counting <= BELFRYMIST_STACK_COUNTING && most_reading <= BELFRYMIST_STACK_READING);
 }

@@ -6,6 +6,7 @@ use denote.Ref.{now}
 use denote.Triple.Clauses.{AtExit}
 use borrow.Fn.Kinds.{Dens, resT, endedOf}
 use Rattle.builds.proofs.Determined.{told-one}
+use Rattle.counting.proofs.CountingLaws.{counts-one}
 use Rattle.firmware.specs.Building.{buildAnswer}
 use Rattle.firmware.proofs.belfrymist_admit.Kinds as admit
 use Rattle.firmware.proofs.belfrymist_admit.Reads as admit-reads
@@ -21,6 +22,10 @@ use Rattle.firmware.proofs.writing.belfrymist_write.Kinds as write
 use Rattle.firmware.proofs.writing.belfrymist_write.Reads as write-reads
 use Rattle.firmware.proofs.building.belfrymist_build.Kinds as build
 use Rattle.firmware.proofs.building.belfrymist_build.Reads as build-reads
+use Rattle.firmware.proofs.count.belfrymist_count.Kinds as count
+use Rattle.firmware.proofs.count.belfrymist_count.Reads as count-reads
+use Rattle.firmware.proofs.count.belfrymist_count_lists.Kinds as count-lists
+use Rattle.firmware.proofs.count.belfrymist_count_lists.Reads as count-lists-reads
 
 module _ (κs : Lfts 1) where
   -- what admitting answers
@@ -57,3 +62,15 @@ write-one κs a r r′ e e′ p q = (p .0 ∙ sym (q .0), p .1 ∙ sym (q .1))
 pub build-one : (κs : Lfts 2) (a : Dens κs build.ps) (r r′ : resT build.r κs .Denot) (e e′ : AtExit (endedOf 2 build.ps build.r) κs)
     → build-reads.Post κs a r e → build-reads.Post κs a r′ e′ → (r ≡ r′) × (now (e .1 .1 .0) ≡ now (e′ .1 .1 .0))
 build-one κs a r r′ e e′ p q = told-one buildAnswer (now (a .1 .1 .0)) (p .says) (q .says) (p .answer) (q .answer) (p .output) (q .output)
+
+-- the number of builds of a card, and of lists
+pub count-one : (κs : Lfts 1) (a : Dens κs count.ps) (r r′ : resT count.r κs .Denot) (e e′ : AtExit (endedOf 1 count.ps count.r) κs)
+    → count-reads.Post κs a r e → count-reads.Post κs a r′ e′ → r ≡ r′
+count-one κs a r r′ e e′ p q = counts-one p q
+
+pub count-lists-one : (κs : Lfts 3) (a : Dens κs count-lists.ps) (r r′ : resT count-lists.r κs .Denot)
+    (e e′ : AtExit (endedOf 3 count-lists.ps count-lists.r) κs)
+    → count-lists-reads.Post κs a r e
+    → count-lists-reads.Post κs a r′ e′
+    → r ≡ r′
+count-lists-one κs a r r′ e e′ p q = counts-one p q

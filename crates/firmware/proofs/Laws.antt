@@ -8,15 +8,21 @@ use Rattle.block.specs.Block.{blockBytes, fetchTests, fetchOf}
 use Rattle.block.proofs.Laws.{holds-there, fetch-none, fetch-some, part-none, part-some, part-length}
 use Rattle.entries.specs.declared.Entry.{Entry}
 use Rattle.card.specs.Fetching.{more}
+use Rattle.sequence.specs.Many.{Power, two-to, no-build}
 use Rattle.sequence.specs.Verdict.{sole, several, noBuild, Outcome, settled, unsettled}
 use Rattle.builds.specs.Building.{answerOf, Builds}
 use Rattle.builds.specs.declared.BuildAnswer as builds
+use Rattle.counting.specs.declared.Number.{Number}
+use Rattle.counting.specs.Counting.{numberOf, Counts}
+use Rattle.counting.proofs.CountingLaws.{counts-as}
 use Rattle.firmware.specs.declared.building.BuildAnswer.{BuildAnswer}
 use Rattle.firmware.specs.Building.{buildAnswer, flatOf, Told}
 use Rattle.firmware.specs.declared.Shape.{Shape}
 use Rattle.firmware.specs.declared.EntryAnswer.{EntryAnswer}
 use Rattle.firmware.specs.declared.StepAnswer.{StepAnswer}
 use Rattle.firmware.specs.declared.PartAnswer.{PartAnswer}
+use Rattle.firmware.specs.declared.count.CountAnswer.{CountAnswer}
+use Rattle.firmware.specs.Counting.{countAnswer, flatNumber}
 use Rattle.firmware.specs.Flat.{shapeOf, entryAnswer, stepAnswer, partAnswer}
 
 -- ---- an enum that says what an answer is
@@ -94,3 +100,15 @@ build-flat b e = record {
   answer = e ∙ ap flatOf (b .answer) ∙ flat-same (b .said);
   output = b .output;
 }
+
+-- ---- the number of builds
+
+number-same : (a : Answer Power) → flatNumber (numberOf a) ≡ countAnswer a
+number-same (given (two-to k)) = refl
+number-same (given no-build) = refl
+number-same (refused n p) = refl
+
+-- the struct of the number
+pub count-flat : {Says : Answer Power → Type 0} {r : Number} {result : CountAnswer} → Counts numberOf Says r → result ≡ flatNumber r
+    → Counts countAnswer Says result
+count-flat c e = counts-as flatNumber number-same c e

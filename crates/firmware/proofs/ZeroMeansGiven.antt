@@ -5,20 +5,31 @@ use Prim.Native.Nat.{ℕ, _<_}
 use native.Mathlib.Omega.{arith}
 use lib.ListN.{length}
 use Rattle.answers.specs.Numbers.{Room}
-use Rattle.answers.specs.Answer.{Answer, given, refused, sound, first}
+use Rattle.answers.specs.Answer.{Answer, given, refused, sound, Test, first}
 use Rattle.answers.proofs.Laws.{given-not-refused}
 use Rattle.answers.proofs.Numbered.{Numbered, none, also, numbered-append, numbered-refused}
 use Rattle.block.specs.Block.{fetchTests}
 use Rattle.block.proofs.Laws.{fetch-numbered}
+use Rattle.entries.specs.declared.Slot.{Slot}
+use Rattle.layout.specs.Layout.{toldBy}
+use Rattle.card.specs.Reading.{readingOrder}
 use Rattle.card.specs.Fetching.{admission, entryFetch, stepping}
 use Rattle.card.proofs.RefusalNumbers.{order-numbered, admission-number, entry-number, step-number}
+use Rattle.lists.specs.Lists.{listsTests}
+use Rattle.lists.proofs.Laws.{lists-numbered}
 use Rattle.writer.specs.Writing.{writing}
 use Rattle.writer.proofs.RefusalNumbers.{writing-number}
+use Rattle.sequence.specs.Many.{Power, two-to, no-build}
 use Rattle.sequence.specs.Verdict.{sole, several, noBuild, Outcome, settled, unsettled}
 use Rattle.builds.specs.Building.{buildTests, Says, tells, refuses}
+use Rattle.counting.specs.Counting.{countTests, Counted, counts, OfCard, OfLists, Counts}
+use Rattle.counting.specs.Counting as counting
+use Rattle.counting.proofs.CountingLaws.{tests-numbered}
 use Rattle.firmware.specs.declared.building.BuildAnswer.{BuildAnswer}
 use Rattle.firmware.specs.Flat.{admitAnswer, entryAnswer, stepAnswer, heldAnswer, writeAnswer}
 use Rattle.firmware.specs.Building.{buildAnswer, Told}
+use Rattle.firmware.specs.declared.count.CountAnswer.{CountAnswer}
+use Rattle.firmware.specs.Counting.{countAnswer}
 
 module _ (limit : ℕ) (card : List ℕ) {n p : ℕ} where
   pub admit-tells : admission limit card ≡ refused n p → 0 < admitAnswer (admission limit card) .number
@@ -65,3 +76,40 @@ module _ {limit budget : ℕ} {card before after : List ℕ} {result : BuildAnsw
       go : {a : Answer Outcome} → Says limit card budget (length before) a → buildAnswer a .number ≡ 0
       go (tells {o} hold _) = zero-in o
       go (refuses fails) = absurd (given-not-refused (sym e ∙ fails))
+
+-- ---- the number of builds, of a card and of lists
+
+module _ {ts : List Test} {kind l : ℕ} {es : List Slot} {result : CountAnswer} (c : Counts countAnswer (Counted ts kind l es) result) where
+  count-tells : Numbered ts → {n p : ℕ} → first (countTests kind ts) sound ≡ refused n p → 0 < result .number
+  count-tells numbered e = rw (c .answer) (go (c .says))
+    where
+      go : {a : Answer Power} → Counted ts kind l es a → 0 < countAnswer a .number
+      go (counts hold _) = absurd (given-not-refused (sym hold ∙ e))
+      go (counting.refuses fails) = numbered-refused (tests-numbered ts kind numbered) sound fails
+
+  count-zero : first (countTests kind ts) sound ≡ given sound → result .number ≡ 0
+  count-zero e = rw (c .answer) (go (c .says))
+    where
+      zero-in : (p : Power) → countAnswer (given p) .number ≡ 0
+      zero-in (two-to k) = refl
+      zero-in no-build = refl
+
+      go : {a : Answer Power} → Counted ts kind l es a → countAnswer a .number ≡ 0
+      go (counts {p} hold _) = zero-in p
+      go (counting.refuses fails) = absurd (given-not-refused (sym e ∙ fails))
+
+module _ (limit : ℕ) (card : List ℕ) {result : CountAnswer} (c : Counts countAnswer (OfCard limit card) result) where
+  pub count-card-tells : {n p : ℕ} → first (countTests (toldBy card .kind) (readingOrder limit card)) sound ≡ refused n p → 0 < result .number
+  count-card-tells = count-tells c (order-numbered limit card)
+
+  pub count-card-zero : first (countTests (toldBy card .kind) (readingOrder limit card)) sound ≡ given sound → result .number ≡ 0
+  count-card-zero = count-zero c
+
+module _ (limit kind l : ℕ) (words ones twos : List ℕ) {result : CountAnswer}
+    (c : Counts countAnswer (OfLists limit kind l words ones twos) result) where
+  pub count-lists-tells : {n p : ℕ} → first (countTests kind (listsTests limit kind l words ones twos)) sound ≡ refused n p
+      → 0 < result .number
+  count-lists-tells = count-tells c (lists-numbered limit kind l words ones twos)
+
+  pub count-lists-zero : first (countTests kind (listsTests limit kind l words ones twos)) sound ≡ given sound → result .number ≡ 0
+  count-lists-zero = count-zero c

@@ -7,7 +7,7 @@
 --   heldAnswer r       == the companion of a fetch
 --   partAnswer k r     == fetching block k: where in the card it starts, and its bytes
 --   writeAnswer r      == writing: the card's length
--- Build has its own file, `Building`. Assumes nothing.
+-- Build and the number of builds have their own files, `Building` and `Counting`. Assumes nothing.
 use Prim.Native.Nat.{ℕ, _*_}
 use Rattle.answers.specs.Answer.{Answer, given, refused, Sound, sound}
 use Rattle.block.specs.Block.{blockBytes}
