@@ -70,3 +70,27 @@ pub fn places(n: usize) -> PlacesRead
     }
     PlacesRead { list, whole: true }
 }
+
+// What was read of the three lists of a card: words, places one and places two; and whether the input has as many.
+pub struct ListsRead {
+    pub words: [u32; SLOTS],
+    pub ones: [u16; SLOTS],
+    pub twos: [u16; SLOTS],
+    pub whole: bool,
+}
+
+// The next a words, b places one and c places two.
+pub fn lists(a: usize, b: usize, c: usize) -> ListsRead
+    requires { ⌜ (a ≤ slots) × (b ≤ slots) × (c ≤ slots) ⌝ }
+    ensures { λ r. ⌜ (length (r .words) ≡ slots) × (length (r .ones) ≡ slots) × (length (r .twos) ≡ slots) ⌝ }
+{
+    let w = words(a);
+    let o = places(b);
+    let t = places(c);
+    ListsRead {
+        words: w.list,
+        ones: o.list,
+        twos: t.list,
+        whole: w.whole && o.whole && t.whole,
+    }
+}

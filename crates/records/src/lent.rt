@@ -3,7 +3,7 @@ ghost use mathlib.Core.Path.{_≡_};
 ghost use lib.ListN.{length, replicate};
 ghost use Rattle.records.specs.Record.{slots, room, oldWord, oldPlace, oldByte};
 
-// The most slots of a list, and the most bytes of an output.
+// The most slots of a list, and the most bytes that are lent.
 pub const SLOTS: usize = 600;
 
 pub const ROOM: usize = 6400;
@@ -24,8 +24,8 @@ pub fn places() -> [u16; SLOTS]
     [4660; SLOTS]
 }
 
-// An output.
-pub fn output() -> [u8; ROOM]
+// Bytes: an output, or the room for a card.
+pub fn bytes() -> [u8; ROOM]
     ensures { λ r. ⌜ room ≡ length r ⌝ }
     ensures { λ r. ⌜ r ≡ replicate room oldByte ⌝ }
 {

@@ -32,7 +32,7 @@ pub fn of_card(card: &[u8], fields: &[u8; FIELDS]) -> bool {
     if ROOM < room {
         return false;
     }
-    let mut out = lent::output();
+    let mut out = lent::bytes();
     build(card, budget, &mut out[..room]);
     true
 }

@@ -34,21 +34,13 @@ pub fn write_lists(fields: &[u8; FIELDS], a: usize, b: usize, c: usize, out: &mu
     requires { ⌜ (a ≤ slots) × (b ≤ slots) × (c ≤ slots) ⌝ }
     ensures { λ r. ⌜ Within (length (now (out .entry))) r ⌝ }
 {
-    let w = input::words(a);
-    if !w.whole {
+    let read = input::lists(a, b, c);
+    if !read.whole {
         return Wrote::Cut;
     }
-    let o = input::places(b);
-    if !o.whole {
-        return Wrote::Cut;
-    }
-    let t = input::places(c);
-    if !t.whole {
-        return Wrote::Cut;
-    }
-    let words = w.list;
-    let ones = o.list;
-    let twos = t.list;
+    let words = read.words;
+    let ones = read.ones;
+    let twos = read.twos;
     Wrote::Is(writer::write(
         input::eight_at(fields, 0),
         input::eight_at(fields, 8),
@@ -88,7 +80,7 @@ pub fn of_lists(fields: &[u8; FIELDS]) -> bool {
     if ROOM < room {
         return false;
     }
-    let mut out = lent::output();
+    let mut out = lent::bytes();
     write_told(fields, a, b, c, &mut out[..room])
 }
 
@@ -111,7 +103,7 @@ pub fn again(card: &[u8], fields: &[u8; FIELDS]) -> bool {
     let mut words = lent::words();
     let mut ones = lent::places();
     let mut twos = lent::places();
-    let mut out = lent::output();
+    let mut out = lent::bytes();
     match card::listing::admit_into(card, &mut words, &mut ones, &mut twos) {
         Admitted::Card(f) => write_first(f, &words, &ones, &twos, &mut out[..room]),
         Admitted::Refused(r) => tell(Written::Refused(r), &out[..room]),

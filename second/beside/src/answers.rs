@@ -104,3 +104,17 @@ pub struct BuildAnswer {
     /// The placements up to the verdict, or the budget where it is Unsettled; 0 on a pair card.
     pub placements: usize,
 }
+
+/// What a count answers; all fields are 0 where there is no build, and all but number and place on refusal.
+#[repr(C)]
+#[derive(Clone, Copy, Debug, Default, PartialEq, Eq)]
+pub struct CountAnswer {
+    /// The refusal's number, or 0.
+    pub number: usize,
+    /// The refusal's place, or 0.
+    pub place: usize,
+    /// 1 where there is a build, 0 where there is none.
+    pub any: usize,
+    /// There are two to the power of this many builds, where there is one.
+    pub exponent: usize,
+}

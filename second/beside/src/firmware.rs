@@ -1,11 +1,15 @@
 //! The compiled library, called through C.
 
-use crate::answers::{Admitted, BuildAnswer, EntryAnswer, Held, Part, StepAnswer, WriteAnswer};
+use crate::answers::{
+    Admitted, BuildAnswer, CountAnswer, EntryAnswer, Held, Part, StepAnswer, WriteAnswer,
+};
 
 /// The functions as C declares them.
 #[cfg(target_arch = "x86_64")]
 mod exported {
-    use super::{Admitted, BuildAnswer, EntryAnswer, Held, Part, StepAnswer, WriteAnswer};
+    use super::{
+        Admitted, BuildAnswer, CountAnswer, EntryAnswer, Held, Part, StepAnswer, WriteAnswer,
+    };
 
     extern "C" {
         pub fn belfrymist_admit(card: *const u8, len: usize) -> Admitted;
@@ -32,6 +36,17 @@ mod exported {
             out: *mut u8,
             out_len: usize,
         ) -> BuildAnswer;
+        pub fn belfrymist_count(card: *const u8, card_len: usize) -> CountAnswer;
+        pub fn belfrymist_count_lists(
+            kind: usize,
+            l: usize,
+            words: *const u32,
+            words_len: usize,
+            ones: *const u16,
+            ones_len: usize,
+            twos: *const u16,
+            twos_len: usize,
+        ) -> CountAnswer;
     }
 }
 
@@ -41,10 +56,12 @@ mod exported {
 /// the caller hands over the place of the answer as a first argument.
 #[cfg(not(target_arch = "x86_64"))]
 mod exported {
-    use super::{Admitted, BuildAnswer, EntryAnswer, Held, Part, StepAnswer, WriteAnswer};
+    use super::{
+        Admitted, BuildAnswer, CountAnswer, EntryAnswer, Held, Part, StepAnswer, WriteAnswer,
+    };
 
     mod placed {
-        use super::{Admitted, BuildAnswer, EntryAnswer, StepAnswer, WriteAnswer};
+        use super::{Admitted, BuildAnswer, CountAnswer, EntryAnswer, StepAnswer, WriteAnswer};
 
         extern "C" {
             pub fn belfrymist_admit(answer: *mut Admitted, card: *const u8, len: usize);
@@ -75,6 +92,18 @@ mod exported {
                 budget: u32,
                 out: *mut u8,
                 out_len: usize,
+            );
+            pub fn belfrymist_count(answer: *mut CountAnswer, card: *const u8, card_len: usize);
+            pub fn belfrymist_count_lists(
+                answer: *mut CountAnswer,
+                kind: usize,
+                l: usize,
+                words: *const u32,
+                words_len: usize,
+                ones: *const u16,
+                ones_len: usize,
+                twos: *const u16,
+                twos_len: usize,
             );
         }
     }
@@ -144,11 +173,44 @@ mod exported {
         placed::belfrymist_build(&mut answer, card, card_len, budget, out, out_len);
         answer
     }
+
+    pub unsafe fn belfrymist_count(card: *const u8, card_len: usize) -> CountAnswer {
+        let mut answer = CountAnswer::default();
+        placed::belfrymist_count(&mut answer, card, card_len);
+        answer
+    }
+
+    // The arguments are those of the function as C declares it.
+    #[allow(clippy::too_many_arguments)]
+    pub unsafe fn belfrymist_count_lists(
+        kind: usize,
+        l: usize,
+        words: *const u32,
+        words_len: usize,
+        ones: *const u16,
+        ones_len: usize,
+        twos: *const u16,
+        twos_len: usize,
+    ) -> CountAnswer {
+        let mut answer = CountAnswer::default();
+        placed::belfrymist_count_lists(
+            &mut answer,
+            kind,
+            l,
+            words,
+            words_len,
+            ones,
+            ones_len,
+            twos,
+            twos_len,
+        );
+        answer
+    }
 }
 
 use exported::{
-    belfrymist_admit, belfrymist_build, belfrymist_companion, belfrymist_entry, belfrymist_fetch,
-    belfrymist_step, belfrymist_write,
+    belfrymist_admit, belfrymist_build, belfrymist_companion, belfrymist_count,
+    belfrymist_count_lists, belfrymist_entry, belfrymist_fetch, belfrymist_step, belfrymist_write,
 };
 
 /// Admits the card.
@@ -222,6 +284,36 @@ pub fn build(card: &[u8], budget: u32, out: &mut [u8]) -> BuildAnswer {
             budget,
             out.as_mut_ptr(),
             out.len(),
+        )
+    }
+}
+
+/// Counts the builds of the card.
+pub fn count(card: &[u8]) -> CountAnswer {
+    // SAFETY: as for `admit`.
+    unsafe { belfrymist_count(card.as_ptr(), card.len()) }
+}
+
+/// Counts the builds of the card of this kind and l whose entries stand in three lists.
+pub fn count_lists(
+    kind: usize,
+    l: usize,
+    words: &[u32],
+    ones: &[u16],
+    twos: &[u16],
+) -> CountAnswer {
+    // SAFETY: each pointer with its length is that of a slice that lives through
+    // the call, and the library only reads the lists.
+    unsafe {
+        belfrymist_count_lists(
+            kind,
+            l,
+            words.as_ptr(),
+            words.len(),
+            ones.as_ptr(),
+            ones.len(),
+            twos.as_ptr(),
+            twos.len(),
         )
     }
 }

@@ -2,6 +2,7 @@
 
 use second::block;
 use second::build::{self, Built};
+use second::count::{self, Count};
 use second::entry::{Entry, Places};
 use second::reader::{self, Head};
 use second::refusal::Refusal;
@@ -9,7 +10,9 @@ use second::verdict::Verdict;
 use second::walk::counted::Counted;
 use second::writer;
 
-use crate::answers::{Admitted, BuildAnswer, EntryAnswer, Held, Part, StepAnswer, WriteAnswer};
+use crate::answers::{
+    Admitted, BuildAnswer, CountAnswer, EntryAnswer, Held, Part, StepAnswer, WriteAnswer,
+};
 
 /// Admits the card.
 pub fn admit(card: &[u8]) -> Admitted {
@@ -154,6 +157,42 @@ fn built(answer: Result<Built, Refusal>) -> BuildAnswer {
                 number,
                 place,
                 ..BuildAnswer::default()
+            }
+        }
+    }
+}
+
+/// Counts the builds of the card.
+pub fn count(card: &[u8]) -> CountAnswer {
+    counted(count::count_card(card))
+}
+
+/// Counts the builds of the card of this kind and l whose entries stand in three lists.
+pub fn count_lists(
+    kind: usize,
+    l: usize,
+    words: &[u32],
+    ones: &[u16],
+    twos: &[u16],
+) -> CountAnswer {
+    counted(count::count_lists(kind, l, words, ones, twos))
+}
+
+/// What a count answers.
+fn counted(answer: Result<Count, Refusal>) -> CountAnswer {
+    match answer {
+        Ok(Count::None) => CountAnswer::default(),
+        Ok(Count::Power(exponent)) => CountAnswer {
+            any: 1,
+            exponent: exponent as usize,
+            ..CountAnswer::default()
+        },
+        Err(refusal) => {
+            let (number, place) = number_and_place(refusal);
+            CountAnswer {
+                number,
+                place,
+                ..CountAnswer::default()
             }
         }
     }

@@ -1,6 +1,6 @@
 //! What a call is given as three lists, tested in its own order.
 
-use crate::entry::Stored;
+use crate::entry::{Entry, Stored};
 use crate::profile::{self, Kind, Profile};
 use crate::refusal::{Reason, Refusal};
 
@@ -32,6 +32,16 @@ impl<'a> Given<'a> {
             stored.entry(&profile).map_err(|reason| reason.at(i))?;
         }
         Ok(profile)
+    }
+
+    /// What the lists say, where they pass their tests: kind, l and m, and the entries.
+    ///
+    /// Tested are 5, then what `profile` tests.
+    pub fn admitted(self, kind: usize, l: usize) -> Result<(Profile, Vec<Entry>), Refusal> {
+        let profile = self.profile(Kind::of_number(kind)?, l)?;
+        // All of them passed their tests, so that no entry is left out.
+        let entries = self.entries().flat_map(|stored| stored.entry(&profile));
+        Ok((profile, entries.collect()))
     }
 
     /// The entries in turn, as many as all three lists have.

@@ -18,13 +18,16 @@
 //! * [`walk`]: the walk on span cards, as the scope document words it;
 //! * [`pairs`]: the verdict on pair cards, by rings of choices;
 //! * [`build`]: building from a card;
-//! * [`report`]: what the program `build` prints for a card;
+//! * [`count`]: how many builds a pair card has, from the card or from lists;
+//! * [`report`]: what the program `build` prints for a card, and the line of its count;
 //! * [`arrangements`]: the builds of small cards, by trying every arrangement;
 //! * [`tables`]: the small tables of the scope document;
 //! * [`cards`]: sound and damaged cards for tests, drawn from a seed;
 //! * [`lists`]: sound and damaged lists for tests, drawn from a seed;
 //! * [`spans`]: span lists for tests of the walk, drawn from a seed;
 //! * [`pair_lists`]: pair lists for tests of their verdict, drawn from a seed;
+//! * [`known_counts`]: pair lists whose number of builds is known, part by part;
+//! * [`neighbours`]: pair lists whose two places are neighbours, and the span lists that they become;
 //! * [`late`]: span lists with one build after a long walk, changed step by step;
 //! * [`for_builds`]: lists of either kind, rooms and budgets, drawn from a seed.
 
@@ -33,14 +36,17 @@ pub mod block;
 pub mod build;
 pub mod cards;
 pub mod check;
+pub mod count;
 pub mod entry;
 #[cfg(test)]
 mod examples;
 pub mod for_builds;
 pub mod given;
+pub mod known_counts;
 pub mod late;
 pub mod letters;
 pub mod lists;
+pub mod neighbours;
 pub mod numbers;
 pub mod pair_lists;
 pub mod pairs;

@@ -4,6 +4,7 @@
 
 use crate::build;
 use crate::cards::{any_count, Draft, Random};
+use crate::count::{count_lists, Count};
 use crate::entry::{Entry, Stored};
 use crate::given::Given;
 use crate::numbers::{
@@ -156,13 +157,12 @@ impl Lists {
 
     /// What sound lists say: kind, l and m, and the entries.
     pub fn admitted(&self) -> Result<(Profile, Vec<Entry>), Refusal> {
-        let profile = self.given().profile(Kind::of_number(self.kind)?, self.l)?;
-        // All of them passed their tests, so that no entry is left out.
-        let entries = self
-            .given()
-            .entries()
-            .flat_map(|stored| stored.entry(&profile));
-        Ok((profile, entries.collect()))
+        self.given().admitted(self.kind, self.l)
+    }
+
+    /// How many builds they have.
+    pub fn count(&self) -> Result<Count, Refusal> {
+        count_lists(self.kind, self.l, &self.words, &self.ones, &self.twos)
     }
 
     /// What is found of the builds of sound lists.

@@ -1,4 +1,4 @@
-//! The verdict on pair cards.
+//! The verdict on pair cards, and the choices that their builds have.
 //!
 //! Places with one candidate take it, as document 000 does in section 3. What
 //! is left are rings, each of which may be turned to two sides. Neighbouring
@@ -34,6 +34,11 @@ pub fn pairs(l: u8, entries: &[Entry]) -> Found {
         placements: 0,
         words,
     }
+}
+
+/// The choices that the builds of these entries have, if there is a build: with n choices there are 2^n builds.
+pub fn choices(l: u8, entries: &[Entry]) -> Option<u32> {
+    builds(l, entries).map(|builds| builds.choices)
 }
 
 /// The builds of a card that has any.

@@ -1,6 +1,7 @@
-//! What the program `build` prints for a card.
+//! What the program `build` prints for a card, and the line that says how many builds it has.
 
 use crate::build::build;
+use crate::count::{count_card, Count};
 use crate::profile::Kind;
 use crate::reader;
 use crate::refusal::Refusal;
@@ -12,8 +13,22 @@ pub const BUDGET: u32 = 1_000_000;
 pub fn report(card: &[u8]) -> String {
     match admitted(card) {
         Ok(lines) => lines,
-        Err(refusal) => format!("refused {} {}\n", refusal.number(), refusal.place),
+        Err(refusal) => refused(refusal),
     }
+}
+
+/// The line for the number of builds of a pair card, ended by a newline; all of the input is the card.
+pub fn count_line(card: &[u8]) -> String {
+    match count_card(card) {
+        Ok(Count::None) => "builds 0\n".to_string(),
+        Ok(Count::Power(exponent)) => format!("builds 2^{exponent}\n"),
+        Err(refusal) => refused(refusal),
+    }
+}
+
+/// The one line for a card that is refused.
+fn refused(refusal: Refusal) -> String {
+    format!("refused {} {}\n", refusal.number(), refusal.place)
 }
 
 /// The two lines for a card that is admitted.

@@ -4,6 +4,7 @@ use super::*;
 use crate::cards::put_right;
 use crate::entry::Stored;
 use crate::examples::{plain, s1};
+use crate::known_counts::{copies, table};
 use crate::lists::Lists;
 use crate::tables::tables;
 
@@ -86,4 +87,30 @@ fn without_an_end() -> Lists {
 fn a_walk_beyond_the_budget_of_the_program() {
     let card = without_an_end().card().expect("sound lists");
     assert_eq!(report(&card), "CARD span 2 61\nunsettled 1000000\n");
+}
+
+#[test]
+fn the_line_of_the_number_of_builds() {
+    let wanted = [
+        "builds 2^1\n",
+        "builds 2^0\n",
+        "builds 2^0\n",
+        "builds 0\n",
+        "builds 2^0\n",
+        "builds 2^0\n",
+        "builds 0\n",
+    ];
+    let lines = wanted.into_iter().chain(["refused 5 0\n"; 5]);
+    for (table, line) in tables().iter().zip(lines) {
+        let card = table.lists.card().expect("a sound table");
+        assert_eq!(count_line(&card), line, "{}", table.name);
+    }
+    let full = copies(&table("P1"), 126).card().expect("sound lists");
+    assert_eq!(count_line(&full), "builds 2^126\n");
+    assert_eq!(count_line(&full[..511]), "refused 1 0\n");
+    assert_eq!(count_line(&[&full, &b"\n"[..]].concat()), "refused 9 0\n");
+    let mut card = full;
+    card[8 * 512] = 16;
+    put_right(&mut card, 8);
+    assert_eq!(count_line(&card), "refused 10 441\n");
 }

@@ -17,8 +17,8 @@ cast-room c = search needs
 returns : tie.Need-returns
 returns c = search needs
 
-output-requires : tie.Need-output-requires
-output-requires c κs = search needs
+bytes-requires : tie.Need-bytes-requires
+bytes-requires c κs = search needs
 
 array-borrow-prefix-out : tie.Need-array-borrow-prefix-out
 array-borrow-prefix-out c = search needs
@@ -40,7 +40,7 @@ of-card-spec =
     two-at-requires
     cast-room
     returns
-    output-requires
+    bytes-requires
     array-borrow-prefix-out
     slice-aggregate-build
     build-requires

@@ -27,8 +27,8 @@ places-requires c κs = search needs
 places-requires-2 : tie.Need-places-requires-2
 places-requires-2 c κs = search needs
 
-output-requires : tie.Need-output-requires
-output-requires c κs = search needs
+bytes-requires : tie.Need-bytes-requires
+bytes-requires c κs = search needs
 
 slice-aggregate-admit-into : tie.Need-slice-aggregate-admit-into
 slice-aggregate-admit-into c = search needs
@@ -95,7 +95,7 @@ again-spec =
     words-requires
     places-requires
     places-requires-2
-    output-requires
+    bytes-requires
     slice-aggregate-admit-into
     slice-aggregate-admit-into-2
     slice-aggregate-admit-into-3

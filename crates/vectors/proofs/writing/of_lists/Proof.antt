@@ -41,8 +41,8 @@ returns-3 c = search needs
 returns-4 : tie.Need-returns-4
 returns-4 c = search needs
 
-output-requires : tie.Need-output-requires
-output-requires c κs = search needs
+bytes-requires : tie.Need-bytes-requires
+bytes-requires c κs = search needs
 
 array-borrow-prefix-out : tie.Need-array-borrow-prefix-out
 array-borrow-prefix-out c = search needs
@@ -72,7 +72,7 @@ of-lists-spec =
     returns-2
     returns-3
     returns-4
-    output-requires
+    bytes-requires
     array-borrow-prefix-out
     slice-aggregate-write-told
     write-told-requires

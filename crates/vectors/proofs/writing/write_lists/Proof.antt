@@ -7,23 +7,11 @@ use borrow.Author.Needs.{needs}
 use Rattle.vectors.proofs.writing.write_lists.Statement.{statement}
 use Rattle.vectors.proofs.writing.write_lists.Tie as tie
 
-words-requires : tie.Need-words-requires
-words-requires c κs = search needs
+lists-requires : tie.Need-lists-requires
+lists-requires c κs = search needs
 
 returns : tie.Need-returns
 returns c = search needs
-
-places-requires : tie.Need-places-requires
-places-requires c κs = search needs
-
-returns-2 : tie.Need-returns-2
-returns-2 c = search needs
-
-places-requires-2 : tie.Need-places-requires-2
-places-requires-2 c κs = search needs
-
-returns-3 : tie.Need-returns-3
-returns-3 c = search needs
 
 eight-at-requires : tie.Need-eight-at-requires
 eight-at-requires c κs = search needs
@@ -55,19 +43,15 @@ write-requires c κs = search needs
 same-length : tie.Need-same-length
 same-length c = search needs
 
-returns-4 : tie.Need-returns-4
-returns-4 c = wrote-within _ (c .before .before .write .ensures)
+returns-2 : tie.Need-returns-2
+returns-2 c = wrote-within _ (c .before .before .write .ensures)
 
 pub write-lists-spec : {M : Type 1} → statement M
 write-lists-spec =
     tie.close
     (tie.spec
-    words-requires
+    lists-requires
     returns
-    places-requires
-    returns-2
-    places-requires-2
-    returns-3
     eight-at-requires
     eight-at-requires-2
     array-share-prefix-words
@@ -78,4 +62,4 @@ write-lists-spec =
     slice-aggregate-write-3
     write-requires
     same-length
-    returns-4)
+    returns-2)

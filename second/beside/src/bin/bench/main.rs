@@ -1,6 +1,8 @@
-//! Times the compiled library beside the second implementation, its walk beside the one in plain C, and,
-//! on x86-64, the program `build` beside the program `report` of `second`: one table of ratios.
+//! Times the compiled library beside the second implementation, its counts beside its builds, its walk
+//! beside the one in plain C, and, on x86-64, the program `build` beside the program `report` of `second`:
+//! one table of ratios.
 
+mod counting;
 mod pairing;
 mod reading;
 mod running;
@@ -27,6 +29,7 @@ fn run() -> Result<(), String> {
 
     let mut operations = reading::operations(&cards)?;
     operations.extend(pairing::operations(&pairs)?);
+    operations.extend(counting::operations(&pairs)?);
     operations.extend(walking::operations(&walks)?);
     // The program is x86-64 code: elsewhere an emulator's time would be set beside the processor's own.
     if cfg!(target_arch = "x86_64") {

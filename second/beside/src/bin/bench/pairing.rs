@@ -20,17 +20,19 @@ const COUNTS: [usize; 4] = [63, 126, 252, 504];
 /// cards take, and would make these look cheaper than long ones.
 const ENTRIES: usize = 8 * 504;
 /// Room for any build.
-const ROOM: usize = MOST_ENTRIES as usize + MOST_LETTERS as usize - 1;
+pub const ROOM: usize = MOST_ENTRIES as usize + MOST_LETTERS as usize - 1;
 /// The budget, which does not matter to a pair card.
-const BUDGET: u32 = 0;
+pub const BUDGET: u32 = 0;
 
 /// A sort of cards: its name, and how one of so many entries is drawn.
 type Sort = (&'static str, fn(&mut Random, usize) -> Lists);
 
 /// Cards of one sort and one number of entries.
 pub struct Sample {
-    name: String,
-    cards: Vec<Vec<u8>>,
+    /// The name of the sort, and the number of entries.
+    pub name: String,
+    /// The cards, which are taken one after the other.
+    pub cards: Vec<Vec<u8>>,
 }
 
 /// The cards that are timed, each sort with each number of entries.
@@ -56,7 +58,7 @@ pub fn samples(random: &mut Random) -> Vec<Sample> {
             });
             samples.push(Sample {
                 cards: cards.collect(),
-                name: format!("build, pairs, {sort}, m = {m}"),
+                name: format!("{sort}, m = {m}"),
             });
         }
     }
@@ -79,7 +81,7 @@ pub fn operations(samples: &[Sample]) -> Result<Vec<Operation<'_>>, String> {
     // A time means nothing where the two do not agree.
     for sample in samples {
         if !sample.cards.iter().all(|card| is_agreed_on(card)) {
-            return Err(format!("the two differ on a card of: {}", sample.name));
+            return Err(format!("builds differ on a card of: {}", sample.name));
         }
     }
     Ok(samples.iter().map(operation).collect())
@@ -99,7 +101,7 @@ fn operation(sample: &Sample) -> Operation<'_> {
     let mut for_library = [0; ROOM];
     let mut for_second = [0; ROOM];
     Operation {
-        name: sample.name.clone(),
+        name: format!("build, pairs, {}", sample.name),
         beside: Beside::Second,
         rounds: ROUNDS,
         calls: sample.cards.len(),

@@ -11,11 +11,12 @@ const ROUND: Duration = Duration::from_micros(300);
 /// The rounds that each side takes, where no call is much longer than that.
 pub const ROUNDS: usize = 301;
 
-/// What the library is set beside.
+/// What the library is set beside: `second`, the walk in C, or its own builds.
 #[derive(Clone, Copy, PartialEq, Eq)]
 pub enum Beside {
     Second,
     C,
+    Build,
 }
 
 /// One operation: its name, and calls on each side.
@@ -83,7 +84,7 @@ fn measure(operation: &mut Operation) -> (f64, f64) {
 
 /// The first line of the table.
 pub fn header() -> String {
-    columns("what", "library", "second or C", "ratio", "of C's speed")
+    columns("what", "library", "beside", "ratio", "of C's speed")
 }
 
 /// Times an operation and gives its line.
@@ -97,6 +98,7 @@ pub fn line(operation: &mut Operation) -> String {
             format!("C {}", shown(other)),
             format!("{:.2}", other / library),
         ),
+        Beside::Build => (format!("build {}", shown(other)), String::new()),
     };
     columns(
         &operation.name,
@@ -109,7 +111,7 @@ pub fn line(operation: &mut Operation) -> String {
 
 /// The columns of a line.
 fn columns(what: &str, library: &str, other: &str, ratio: &str, speed: &str) -> String {
-    let line = format!("{what:<46} {library:>10} {other:>13} {ratio:>7} {speed:>13}");
+    let line = format!("{what:<46} {library:>10} {other:>15} {ratio:>7} {speed:>13}");
     line.trim_end().to_string()
 }
 

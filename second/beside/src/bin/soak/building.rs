@@ -14,9 +14,25 @@ use crate::lent::Lent;
 use crate::{card_changed, difference, hex, output_differs, Soak};
 
 /// The largest budget that is tried, where `second` walks, on a card which it does not settle.
-const MOST: u32 = 100_000;
+pub const MOST: u32 = 100_000;
 /// A walk of more placements is made a few times alone.
 const COSTLY: u32 = 1000;
+
+/// What the library said in a call, which was compared with `second`.
+pub struct Said {
+    answer: BuildAnswer,
+    out: Lent<u8>,
+}
+
+impl Said {
+    /// The number of the verdict, the length, and the letters of the sequence.
+    pub fn built(&self) -> (usize, usize, &[u8]) {
+        let BuildAnswer {
+            verdict, length, ..
+        } = self.answer;
+        (verdict, length, &self.out.elements()[..length])
+    }
+}
 
 impl Soak {
     /// Makes the building calls on this card.
@@ -42,17 +58,17 @@ impl Soak {
         Ok(())
     }
 
-    /// Makes one call on both sides and describes a difference, if there is one.
-    fn build_once(
+    /// Makes one call on both sides and describes a difference, if there is one; after the last call it makes none.
+    pub fn build_once(
         &mut self,
         random: &mut Random,
         card: &Lent<u8>,
         budget: u32,
         room: usize,
         by_second: impl FnOnce(&[u8], u32, &mut [u8]) -> BuildAnswer,
-    ) -> Result<(), String> {
+    ) -> Result<Option<Said>, String> {
         if self.is_done() {
-            return Ok(());
+            return Ok(None);
         }
         let mut out = Lent::drawn(random, room);
         let library = firmware::build(card.elements(), budget, out.elements_mut());
@@ -62,7 +78,10 @@ impl Soak {
             .or_else(|| output_differs(&out))
             .or_else(|| card_changed(card));
         match differs {
-            None => Ok(()),
+            None => Ok(Some(Said {
+                answer: library,
+                out,
+            })),
             Some(what) => Err(format!(
                 "call {}: build with budget {budget} into {room} bytes, from a card of {} bytes\n{what}\ncard {}",
                 self.tally.calls(),
@@ -98,7 +117,7 @@ fn calls(random: &mut Random, card: &[u8]) -> Vec<(u32, usize)> {
 }
 
 /// Budgets around a card's own placements, as far as these are known.
-fn budgets(random: &mut Random, own: &Found) -> Vec<u32> {
+pub fn budgets(random: &mut Random, own: &Found) -> Vec<u32> {
     let n = own.placements;
     let any = any_number(random);
     let less = random.below(n as usize + 1) as u32;
@@ -123,12 +142,12 @@ fn long_budgets(random: &mut Random, walk: &Counted) -> Vec<u32> {
 }
 
 /// Any number, of any size.
-fn any_number(random: &mut Random) -> u32 {
+pub fn any_number(random: &mut Random) -> u32 {
     (random.draw() >> random.between(32, 63)) as u32
 }
 
 /// Some room that is enough for a build of this length.
-fn enough(random: &mut Random, length: usize) -> usize {
+pub fn enough(random: &mut Random, length: usize) -> usize {
     let more = length + random.below(84);
     random.pick(&[length, length, length + 1, more])
 }

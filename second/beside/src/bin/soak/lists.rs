@@ -2,7 +2,7 @@
 
 use std::fmt::Debug;
 
-use beside::answers::WriteAnswer;
+use beside::answers::{CountAnswer, WriteAnswer};
 use beside::firmware;
 use second::cards::Random;
 use second::lists::Lists;
@@ -39,6 +39,17 @@ impl LentLists {
             self.ones.elements(),
             self.twos.elements(),
             out,
+        )
+    }
+
+    /// Has the library count their builds.
+    pub fn count(&self) -> CountAnswer {
+        firmware::count_lists(
+            self.kind,
+            self.l,
+            self.words.elements(),
+            self.ones.elements(),
+            self.twos.elements(),
         )
     }
 

@@ -6,9 +6,11 @@
 //! tried nothing can be told from one that did.
 
 mod building;
+mod counting;
 mod inputs;
 mod lent;
 mod lists;
+mod neighbours;
 mod reading;
 mod tally;
 mod writing;
@@ -22,6 +24,7 @@ use second::spans::any_long;
 
 use inputs::{any_buildable_card, damaged};
 use lent::Lent;
+use neighbours::Neighbours;
 use tally::Tally;
 
 /// The seed where none is given.
@@ -29,10 +32,10 @@ const SEED: u64 = 1;
 /// The damaged copies of each sound card.
 const COPIES: usize = 2;
 /// One turn in so many builds from cards whose walk is long.
-const LONG_TURNS: usize = 40;
+const LONG_TURNS: usize = 18;
 /// The steps that lists are changed by before each of these turns.
 const STEPS: usize = 16;
-/// From so many calls on, no answer of a build may be missing.
+/// From so many calls on, no answer of a build or of a count may be missing.
 const ENOUGH: u64 = 100_000;
 /// From so many calls on, none may be missing after a long walk.
 const ENOUGH_LONG: u64 = 400_000;
@@ -41,6 +44,8 @@ const ENOUGH_LONG: u64 = 400_000;
 struct Soak {
     wanted: u64,
     tally: Tally,
+    /// Builds from span cards beside those from their pair cards.
+    neighbours: Neighbours,
     /// Lists with one build after a long walk, which change from turn to turn.
     late: Late,
 }
@@ -67,6 +72,13 @@ impl Soak {
                 self.on_card(random, &card)?;
             }
             self.write(random)?;
+            self.count_from_lists(random)?;
+            if random.once_in(2) {
+                self.count_and_build(random)?;
+            }
+            if random.once_in(2) {
+                self.build_neighbours(random)?;
+            }
             if random.once_in(LONG_TURNS) {
                 self.walk_long(random)?;
             }
@@ -92,18 +104,20 @@ impl Soak {
         }
         let lent = Lent::new(random, card);
         self.build(random, &lent)?;
+        self.count(&lent)?;
         self.read(random, &lent)?;
         self.round(random, &lent)
     }
 
     /// Says how often each answer came, and what a long run should not be without.
     fn report(&self) -> Result<(), String> {
-        print!("{}", self.tally.lines());
+        print!("{}{}", self.tally.lines(), self.neighbours.line());
         let calls = self.tally.calls();
-        let missing = self.tally.missing().filter(|_| calls >= ENOUGH);
+        let missing = self.tally.missing().or_else(|| self.neighbours.missing());
+        let missing = missing.filter(|_| calls >= ENOUGH);
         let short = self.tally.missing_long().filter(|_| calls >= ENOUGH_LONG);
         match missing.or(short) {
-            Some(what) => Err(format!("no build was {what}")),
+            Some(what) => Err(what),
             None => Ok(()),
         }
     }
@@ -162,6 +176,7 @@ fn main() -> ExitCode {
     let mut soak = Soak {
         wanted,
         tally: Tally::default(),
+        neighbours: Neighbours::default(),
         late: Late::new(&mut random),
     };
     if let Err(what) = soak.run(&mut random) {

@@ -72,7 +72,7 @@ impl Soak {
             self.read_once(&lent, Operation::Companion, k)?;
             self.read_once(&lent, Operation::Fetch, k)?;
         }
-        Ok(())
+        self.count(&lent)
     }
 }
 

@@ -2,12 +2,14 @@
 
 use std::fmt::Write;
 
-use beside::answers::BuildAnswer;
+use beside::answers::{BuildAnswer, CountAnswer};
 
 /// What is called.
 #[derive(Clone, Copy, Debug)]
 pub enum Operation {
     Build,
+    Count,
+    CountLists,
     Admit,
     Entry,
     Step,
@@ -17,8 +19,10 @@ pub enum Operation {
 }
 
 /// All of them, in the order of their lines.
-const OPERATIONS: [Operation; 7] = [
+const OPERATIONS: [Operation; 9] = [
     Operation::Build,
+    Operation::Count,
+    Operation::CountLists,
     Operation::Admit,
     Operation::Entry,
     Operation::Step,
@@ -27,13 +31,21 @@ const OPERATIONS: [Operation; 7] = [
     Operation::Write,
 ];
 /// The names of the verdicts, from number 1 on.
-const VERDICTS: [&str; 4] = ["sole", "several", "none", "unsettled"];
+pub const VERDICTS: [&str; 4] = ["sole", "several", "none", "unsettled"];
 /// The refusals have numbers from 1 up to this one.
 const LAST_REFUSAL: usize = 14;
-/// A build has those up to this one.
-const LAST_OF_BUILD: usize = 12;
+/// The refusals that a build has.
+const OF_BUILD: [usize; 12] = [1, 2, 3, 4, 5, 6, 7, 8, 9, 10, 11, 12];
+/// The refusals that a count from a card has.
+const OF_COUNT: [usize; 11] = [1, 2, 3, 4, 5, 6, 7, 8, 9, 10, 11];
+/// The refusals that a count from lists has.
+const OF_LISTS: [usize; 6] = [5, 6, 7, 10, 11, 13];
+/// What a count says that is not refused: no build, 2^0 builds, or 2 to a higher power.
+const COUNTS: [&str; 3] = ["none", "one build", "more"];
 /// A walk of more placements is long.
 const LONG: usize = 10_000;
+/// A higher exponent is high: so many builds do not fit into a machine word.
+const HIGH: usize = 64;
 
 /// The answers of each operation so far.
 #[derive(Default)]
@@ -43,6 +55,10 @@ pub struct Tally {
     answers: [[u64; LAST_REFUSAL + 1]; OPERATIONS.len()],
     /// The verdicts of builds, from number 1 on.
     verdicts: [u64; VERDICTS.len()],
+    /// For each operation what its counts said; nothing for those that do not count.
+    counts: [[u64; COUNTS.len()]; OPERATIONS.len()],
+    /// For each operation the highest exponent of its counts.
+    highest: [usize; OPERATIONS.len()],
     /// The placements of all builds.
     placements: u64,
     /// The most placements of a build that was settled.
@@ -80,19 +96,54 @@ impl Tally {
         }
     }
 
-    /// An answer of a build that never came, if there is one.
+    /// Counts a count of builds, from a card or from lists, and its answer.
+    pub fn count_count(&mut self, operation: Operation, answer: &CountAnswer) {
+        self.count(operation, answer.number);
+        if answer.number == 0 {
+            let said = answer.any + answer.exponent.min(1);
+            self.counts[operation as usize][said] += 1;
+            let highest = &mut self.highest[operation as usize];
+            *highest = answer.exponent.max(*highest);
+        }
+    }
+
+    /// An answer of a build or of a count that never came, if there is one.
     pub fn missing(&self) -> Option<String> {
-        let builds = &self.answers[Operation::Build as usize];
-        let verdict = VERDICTS.iter().zip(self.verdicts).find(|of| of.1 == 0);
-        let refusal = (1..=LAST_OF_BUILD).find(|&number| builds[number] == 0);
-        let verdict = verdict.map(|(name, _)| name.to_string());
-        verdict.or(refusal.map(|number| format!("refused with {number}")))
+        let verdict = never(&VERDICTS, &self.verdicts).map(|name| format!("no build was {name}"));
+        verdict
+            .or_else(|| self.missing_refusal(Operation::Build, &OF_BUILD))
+            .or_else(|| self.missing_count(Operation::Count))
+            .or_else(|| self.missing_power(Operation::Count))
+            .or_else(|| self.missing_refusal(Operation::Count, &OF_COUNT))
+            .or_else(|| self.missing_count(Operation::CountLists))
+            .or_else(|| self.missing_power(Operation::CountLists))
+            .or_else(|| self.missing_refusal(Operation::CountLists, &OF_LISTS))
+    }
+
+    /// What this operation, which counts, never said, if there is such an answer.
+    fn missing_count(&self, operation: Operation) -> Option<String> {
+        let name = never(&COUNTS, &self.counts[operation as usize])?;
+        Some(format!("no {operation:?} said: {name}"))
+    }
+
+    /// Says so where this operation, which counts, never gave a high exponent.
+    fn missing_power(&self, operation: Operation) -> Option<String> {
+        let is_high = self.highest[operation as usize] > HIGH;
+        (!is_high).then(|| format!("no {operation:?} said more than 2^{HIGH} builds"))
+    }
+
+    /// One of these refusals that the operation never gave, if there is one.
+    fn missing_refusal(&self, operation: Operation, numbers: &[usize]) -> Option<String> {
+        let answers = &self.answers[operation as usize];
+        let mut numbers = numbers.iter();
+        let number = numbers.find(|&&number| answers[number] == 0)?;
+        Some(format!("no {operation:?} was refused with {number}"))
     }
 
     /// A verdict that never came after a long walk, if there is one.
     pub fn missing_long(&self) -> Option<String> {
-        let verdict = VERDICTS.iter().zip(self.long).find(|of| of.1 == 0);
-        verdict.map(|(name, _)| format!("{name} after a long walk"))
+        let name = never(&VERDICTS, &self.long)?;
+        Some(format!("no build was {name} after a long walk"))
     }
 
     /// A line for each operation: its answers that are no refusal, and its refusals by number.
@@ -102,16 +153,9 @@ impl Tally {
             let calls: u64 = answers.iter().sum();
             _ = write!(text, "{operation:?} {calls}:");
             match operation {
-                Operation::Build => {
-                    let counts = self.verdicts.iter().zip(self.long);
-                    for (name, (count, long)) in VERDICTS.iter().zip(counts) {
-                        _ = write!(text, " {name} {count} ({long} long),");
-                    }
-                    let (all, longest) = (self.placements, self.longest);
-                    _ = write!(
-                        text,
-                        " placements {all}, at most {longest} up to a verdict,"
-                    );
+                Operation::Build => text.push_str(&self.verdicts_came()),
+                Operation::Count | Operation::CountLists => {
+                    text.push_str(&self.counts_came(*operation));
                 }
                 _ => _ = write!(text, " answered {},", answers[0]),
             }
@@ -124,4 +168,37 @@ impl Tally {
         }
         text
     }
+
+    /// How often each verdict came, and the placements.
+    fn verdicts_came(&self) -> String {
+        let mut text = String::new();
+        let counts = self.verdicts.iter().zip(self.long);
+        for (name, (count, long)) in VERDICTS.iter().zip(counts) {
+            _ = write!(text, " {name} {count} ({long} long),");
+        }
+        let (all, longest) = (self.placements, self.longest);
+        _ = write!(
+            text,
+            " placements {all}, at most {longest} up to a verdict,"
+        );
+        text
+    }
+
+    /// How often this operation, which counts, said each thing.
+    fn counts_came(&self, operation: Operation) -> String {
+        let mut text = String::new();
+        for (name, count) in COUNTS.iter().zip(self.counts[operation as usize]) {
+            _ = write!(text, " {name} {count},");
+        }
+        let highest = self.highest[operation as usize];
+        _ = write!(text, " at most 2^{highest} builds,");
+        text
+    }
+}
+
+/// The first of these names whose answer never came, if there is one.
+pub fn never(names: &[&'static str], came: &[u64]) -> Option<&'static str> {
+    let mut answers = names.iter().zip(came);
+    let (name, _) = answers.find(|(_, &came)| came == 0)?;
+    Some(name)
 }

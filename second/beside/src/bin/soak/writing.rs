@@ -91,6 +91,7 @@ impl Soak {
             }
             let room = sound.size();
             self.write_lists(random, &long, room)?;
+            self.count_lists(random, &long)?;
             for list in 0..3 {
                 let mut lists = sound.clone();
                 match list {
@@ -99,9 +100,11 @@ impl Soak {
                     _ => lists.twos.clone_from(&long.twos),
                 }
                 self.write_lists(random, &lists, room)?;
+                self.count_lists(random, &lists)?;
             }
             long.resize(BEYOND, BEYOND, BEYOND);
             self.write_lists(random, &long, room)?;
+            self.count_lists(random, &long)?;
         }
         Ok(())
     }
