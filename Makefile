@@ -1,10 +1,10 @@
 # make            proves every crate, builds the programs, and runs each on its stored input
-# make run        proves and builds the program `build`, and runs it on a sample card; CARD=FILE for another card
+# make run        proves and builds the programs, and runs `build` on a sample card; CARD=FILE for another card
 # make test       passes all tests: the same that the gate runs
-# make install    puts the program, its manual page and the C header below PREFIX, by default /usr/local; DESTDIR goes before it
+# make install    puts the programs, their manual pages and the C header below PREFIX, by default /usr/local; DESTDIR goes before it
 # make bench      times the compiled library beside the second implementation
 # make soak       compares them on COUNT random calls, by default 10000000; SEED=N for other calls
-# make vectors    writes the stored vectors anew from the second implementation
+# make vectors    writes the stored vectors and counts anew from the second implementation
 # make samples    lays the sample cards out anew from their tables
 export CARGO_TARGET_DIR := $(CURDIR)/target/cargo
 export CARGO_NET_OFFLINE := true
@@ -17,24 +17,24 @@ CARD ?= samples/s1.card
 COUNT ?= 10000000
 SEED ?= 1
 
-.PHONY: all program run test install archive report bench soak vectors samples
+.PHONY: all programs run test install archive report bench soak vectors samples
 
 all:
 	rt check
 
-program:
-	rt check build
+programs:
+	rt check build count_builds
 
-run: program
+run: programs
 	tests/x86 target/bin/build < $(CARD)
 
 test:
 	.ci/run
 
-install: program
+install: programs
 	install -d $(DESTDIR)$(PREFIX)/bin $(DESTDIR)$(PREFIX)/share/man/man1 $(DESTDIR)$(PREFIX)/include
-	install -m 755 target/bin/build $(DESTDIR)$(PREFIX)/bin/build
-	install -m 644 man/build.1 $(DESTDIR)$(PREFIX)/share/man/man1/build.1
+	install -m 755 target/bin/build target/bin/count_builds $(DESTDIR)$(PREFIX)/bin
+	install -m 644 man/build.1 man/count_builds.1 $(DESTDIR)$(PREFIX)/share/man/man1
 	install -m 644 include/belfrymist.h $(DESTDIR)$(PREFIX)/include/belfrymist.h
 
 archive:
@@ -43,7 +43,7 @@ archive:
 report:
 	cd second && cargo build --release --quiet --bin report
 
-bench: program archive report
+bench: programs archive report
 	cd second && cargo run --release --quiet -p beside --bin bench
 
 soak: archive
@@ -51,6 +51,7 @@ soak: archive
 
 vectors:
 	cd second && cargo run --release --quiet --bin make_vectors $(CURDIR)/crates/vectors
+	cd second && cargo run --release --quiet --bin make_counts $(CURDIR)/crates/counts
 
 samples:
 	python3 samples/make.py samples

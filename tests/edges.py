@@ -1,8 +1,8 @@
 #!/usr/bin/env python3
-"""Cards at the edges of each rule, with what the program answers to them.
+"""Cards at the edges of each rule, with what the programs answer to them.
 
-edges.py FOLDER writes FOLDER/NAME.card for each, and FOLDER/answers.txt in the form of tests/answers.txt beside this script. The answers
-are stated here, from the scope document; the cards are laid out by samples/make.py.
+edges.py FOLDER writes FOLDER/NAME.card for each, and FOLDER/answers.txt and FOLDER/counts.txt in the form of those beside this script. The
+answers are stated here, from the scope document and request 12; the cards are laid out by samples/make.py.
 """
 import pathlib
 import sys
@@ -90,28 +90,55 @@ REFUSED = {
     "last-entry-of-a-full-card": (card(SPAN, 2, [("AA", i, i) for i in range(503)] + [("AA", 503, 504)]), 11, 503),
 }
 
+# Span cards.
 BUILT = {
     "l-12": (homopolymer(3, l=12), "CARD span 12 3", f"sole {'A' * 14} 3"),
     "m-1": (homopolymer(1), "CARD span 2 1", "sole AA 1"),
     "m-63": (homopolymer(63), "CARD span 2 63", f"sole {'A' * 64} 63"),
     "m-64": (homopolymer(64), "CARD span 2 64", f"sole {'A' * 65} 64"),
     "m-504": (FULL, "CARD span 2 504", f"sole {'A' * 505} 504"),
-    "m-504-pair-l-12": (homopolymer(504, l=12, kind=PAIR), "CARD pair 12 504", f"sole {'A' * 515} 0"),
     "eight-wide": (card(SPAN, 2, [("AA", 0, 7)] * 8), "CARD span 2 8", "sole AAAAAAAAA 8"),
     "largest-word": (card(SPAN, 12, [("T" * 12, 0, 0)]), "CARD span 12 1", "sole TTTTTTTTTTTT 1"),
 }
 
 
+def pairs_apart(m):
+    """A pair card of m words by fours, each four as P1 has them: a choice for every four."""
+    four = [("AC", 0), ("CA", 1), ("AG", 0), ("GA", 1)]
+    return card(PAIR, 2, [(word, 4 * i + at, 4 * i + at + 2) for i in range(m // 4) for word, at in four])
+
+
+# Name, card, both lines of `build`, and the line of `count_builds`.
+COUNTED = {
+    "m-504-choices": (pairs_apart(504), "CARD pair 2 504", f"several {'ACAG' * 126}A 0", "builds 2^126"),
+    "m-504-swaps": (
+        card(PAIR, 2, [("AA", 2 * (i // 2), 2 * (i // 2) + 1) for i in range(504)]),
+        "CARD pair 2 504",
+        f"sole {'A' * 505} 0",
+        "builds 2^0",
+    ),
+    "m-504-pair-l-12": (homopolymer(504, l=12, kind=PAIR), "CARD pair 12 504", f"sole {'A' * 515} 0", "builds 2^0"),
+    "pair-crowded": (card(PAIR, 2, [("AA", 0, 1)] * 3), "CARD pair 2 3", "none 0", "builds 0"),
+}
+
+
 def main():
     folder = pathlib.Path(sys.argv[1])
-    lines = []
+    answers, counts = [], []
+
+    def answered(name, stored, answer, count):
+        (folder / f"{name}.card").write_bytes(stored)
+        answers.append(f"{name}|{answer}\n")
+        counts.append(f"{name}|{count}\n")
+
     for name, (stored, rule, place) in REFUSED.items():
-        (folder / f"{name}.card").write_bytes(stored)
-        lines.append(f"{name}|refused {rule} {place}\n")
+        answered(name, stored, f"refused {rule} {place}", f"refused {rule} {place}")
     for name, (stored, first, second) in BUILT.items():
-        (folder / f"{name}.card").write_bytes(stored)
-        lines.append(f"{name}|{first}|{second}\n")
-    (folder / "answers.txt").write_text("".join(lines))
+        answered(name, stored, f"{first}|{second}", "refused 5 0")
+    for name, (stored, first, second, count) in COUNTED.items():
+        answered(name, stored, f"{first}|{second}", count)
+    (folder / "answers.txt").write_text("".join(answers))
+    (folder / "counts.txt").write_text("".join(counts))
 
 
 if __name__ == "__main__":
