@@ -4,6 +4,7 @@
 --   GoesWith q r             == the number q goes with the answer r of build
 --   p1Twice                  == two copies of P1 side by side
 --   CountedTable             == a table, with the number of its builds
+--   countedTables            == P1 to P7 and two copies of P1, with theirs
 -- Assumes nothing.
 use mathlib.Core.Path.{_≡_}
 use mathlib.Core.List.{List, [], _∷_, _++_}

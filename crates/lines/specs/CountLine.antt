@@ -1,4 +1,5 @@
 -- What the program `count_builds` prints. `limit` is the most entries that a card may have.
+--   powerLine k, noneLine    == the line of 2^k builds, and of none
 --   countLine a              == its line, where a is what is said of the card
 --   CountReports limit card bytes
 --                            == what is printed for the card

@@ -6,6 +6,14 @@ use borrow.Author.Needs.{needs}
 use Rattle.counting.proofs.count_card.Statement.{statement}
 use Rattle.counting.proofs.count_card.Tie as tie
 
+-- the card was admitted
+abbrev listed : tie.After-twos2 → tie.After-admit-into
+listed c = c .before .before .before
+
+-- and has this format
+abbrev of-card : tie.After-twos3 → tie.After-f
+of-card c = c .before .before .before .before
+
 slice-aggregate-admit-into : tie.Need-slice-aggregate-admit-into
 slice-aggregate-admit-into c = search needs
 
@@ -32,15 +40,15 @@ slice-aggregate-count-listed-3 c = search needs
 
 count-listed-requires : tie.Need-count-listed-requires
 count-listed-requires c κs =
-    let known = c .before .before .before .before in
-    let did = known .before .before .before .before .before .admit-into .ensures in
+    let known = of-card c in
+    let lists = known .before .before in
+    let did = listed lists .admit-into .ensures in
     let is = known .f .given .1 in
-    let few = listed-few did is in
-    let after = known .before in (
+    let few = listed-few did is in (
       (
-        omega (arith, few, after .before .before .before .words2 .given),
-        omega (arith, few, after .before .before .ones2 .given),
-        omega (arith, few, after .before .twos2 .given),
+        omega (arith, few, lists .before .before .words2 .given),
+        omega (arith, few, lists .before .ones2 .given),
+        omega (arith, few, lists .twos2 .given),
       ),
       listed-sound did is,
     )
@@ -50,15 +58,13 @@ enum-known-r c = search needs
 
 returns : tie.Need-returns
 returns c =
-    let known = c .before .before .before .before .before in
-    let did = known .before .before .before .before .before .admit-into .ensures in
-    listed-counts did (known .f .given .1) (c .count-listed .ensures)
+    let known = of-card (c .before) in
+    listed-counts (listed (known .before .before) .admit-into .ensures) (known .f .given .1) (c .count-listed .ensures)
 
 returns-2 : tie.Need-returns-2
 returns-2 c =
     let known = c .before in
-    let did = known .before .before .before .before .before .admit-into .ensures in
-    card-refused did (known .r .given .1) (omega arith) (omega arith) (omega arith)
+    card-refused (listed (known .before .before) .admit-into .ensures) (known .r .given .1) (omega arith) (omega arith) (omega arith)
 
 pub count-card-spec : {M : Type 1} → statement M
 count-card-spec =

@@ -1,18 +1,18 @@
 -- `count_listed` meets its contract: the first m slots of each list. Assumes nothing.
-use mathlib.Core.Path.{sym}
-use lib.Seq.{length-take-le}
+use native.Mathlib.Omega.{arith}
+use lib.ListN.{length-take}
 use borrow.Author.Needs.{needs}
 use Rattle.counting.proofs.count_listed.Statement.{statement}
 use Rattle.counting.proofs.count_listed.Tie as tie
 
 slice-aggregate-count-sound : tie.Need-slice-aggregate-count-sound
-slice-aggregate-count-sound c = sym (length-take-le _ _ (c .before .before .before .before .pre .0 .0))
+slice-aggregate-count-sound c = simp length-take (omega arith)
 
 slice-aggregate-count-sound-2 : tie.Need-slice-aggregate-count-sound-2
-slice-aggregate-count-sound-2 c = sym (length-take-le _ _ (c .before .before .before .before .before .pre .0 .1))
+slice-aggregate-count-sound-2 c = simp length-take (omega arith)
 
 slice-aggregate-count-sound-3 : tie.Need-slice-aggregate-count-sound-3
-slice-aggregate-count-sound-3 c = sym (length-take-le _ _ (c .before .before .before .before .before .before .pre .0 .2))
+slice-aggregate-count-sound-3 c = simp length-take (omega arith)
 
 count-sound-requires : tie.Need-count-sound-requires
 count-sound-requires c κs = search needs

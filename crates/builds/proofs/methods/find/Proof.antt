@@ -1,9 +1,9 @@
 -- `find` meets its contract: the walk on a span card, else the method for pair cards. Assumes nothing.
 use mathlib.Core.Path.{_≡_}
 use borrow.Author.Needs.{needs}
-use Rattle.entries.specs.Fault.{pair, span}
+use Rattle.entries.specs.Fault.{span}
 use Rattle.builds.specs.From.{Sound}
-use Rattle.builds.proofs.SoundLaws.{sound-few, sound-kind, sound-spans, sound-pairs}
+use Rattle.builds.proofs.SoundLaws.{sound-few, sound-kind, sound-as-pairs, sound-spans, sound-pairs}
 use Rattle.builds.proofs.FromLaws.{found-spans, found-pairs}
 use Rattle.builds.proofs.methods.find.Statement.{statement}
 use Rattle.builds.proofs.methods.find.Tie as tie
@@ -27,8 +27,7 @@ returns c =
 settle-pairs-requires : tie.Need-settle-pairs-requires
 settle-pairs-requires c κs =
     let at = c .before .before .before .before .before .before in
-    let kind : at .args .kind ≡ pair = sound-kind (at .pre .0) (c .before .if1 .left) in
-    let hold : Sound pair (at .args .l) (at .args .words .now) (at .args .ones .now) (at .args .twos .now) = rw kind at (at .pre .0) in
+    let hold = sound-as-pairs (at .pre .0) (c .before .if1 .left) in
     (sound-pairs hold, (sound-few hold .1, at .pre .1))
 
 same-length-2 : tie.Need-same-length-2
