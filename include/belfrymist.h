@@ -127,7 +127,7 @@ typedef struct {
 typedef struct {
     size_t number, place;
     size_t any;      /* 1 where there is a build, 0 where there is none */
-    size_t exponent; /* there are two to this power; 0 where there is none */
+    size_t exponent; /* where any is 1, there are two to this power; otherwise 0 */
 } belfrymist_count_answer;
 
 /* Admits a card: tests all of it, and answers its kind, l and m.
@@ -171,8 +171,9 @@ belfrymist_write_answer belfrymist_write(size_t kind, size_t l, const uint32_t *
 belfrymist_build_answer belfrymist_build(const uint8_t *card, size_t card_len, uint32_t budget, uint8_t *out, size_t out_len);
 
 /* How many builds a pair card has: none, or a power of two, whose exponent is given (a full card may have more than a size_t holds). A build is
- * a sequence, so that two ways that only exchange equal words are one. belfrymist_build says sole of such a card exactly where the exponent
- * is 0, several where it is above 0, and none where there is no build. There is no output and no budget.
+ * a sequence, so that two ways that only exchange equal words are one. belfrymist_build, with room for the sequence, says sole of such a card
+ * exactly where `any` is 1 and the exponent 0, several where the exponent is above 0, and none where `any` is 0. There is no output and no
+ * budget.
  * Refuses: the reader's refusals, then 5 on a span card, of which no number is given. */
 belfrymist_count_answer belfrymist_count(const uint8_t *card, size_t card_len);
 

@@ -4,6 +4,7 @@ use mathlib.Core.Bool.{Bool, true, false}
 use mathlib.Core.List.{List}
 use Prim.Native.Nat.{ℕ, zero, suc}
 use Rattle.entries.specs.declared.Slot.{Slot}
+use Rattle.sequence.proofs.ManyLaws.{many-empty}
 use Rattle.pairs.specs.Settling.{pairEntries, Means, settles}
 use Rattle.pairing.specs.Paired.{Gives}
 use Rattle.walk.specs.declared.Walked.{Walked}
@@ -29,6 +30,6 @@ pub found-right : {l : ℕ} {es : List Slot} {found : Bool} {choices : ℕ} {ws 
 found-right {l} {es} {found} {choices} {ws} given-words e = rw e (go found choices given-words)
   where
     go : (f : Bool) (n : ℕ) → Gives l es f n ws → Right l (pairEntries es) (Means l es) (foundAs f n) ws
-    go false n g = record { means = settles (g .none refl); worded = λ none-is. absurd none-is }
+    go false n g = record { means = settles (many-empty (g .many)); worded = λ none-is. absurd none-is }
     go true zero g = record { means = settles (g .told refl); worded = λ some-is. g .worded refl }
     go true (suc k) g = record { means = settles (g .told refl); worded = λ some-is. g .worded refl }

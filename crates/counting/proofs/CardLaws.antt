@@ -24,7 +24,7 @@ use Rattle.builds.specs.Building.{slotsOn}
 use Rattle.builds.proofs.CardLaws.{its-entries, listed-entries}
 use Rattle.counting.specs.declared.Number.{Number}
 use Rattle.counting.specs.declared.Number.the-variants as is
-use Rattle.counting.specs.Counting.{countTests, Counted, counts, refuses, OfCard, OfLists, numberOf, Counts}
+use Rattle.counting.specs.Counting.{countTests, Counted, tells, refuses, OfCard, OfLists, numberOf, Counts}
 use Rattle.counting.specs.ByKind.{ByKind}
 use Rattle.counting.proofs.CountingLaws.{refused-counts, kind-counts}
 
@@ -60,7 +60,7 @@ other-tests {ts} {ts′} {kind} e f = go
     same = first-holds _ sound ts′ f ∙ sym (first-holds _ sound ts e)
 
     go : {l : ℕ} {es : List Slot} {a : Answer Power} → Counted ts kind l es a → Counted ts′ kind l es a
-    go (counts h m) = counts (same ∙ h) m
+    go (tells h m) = tells (same ∙ h) m
     go (refuses h) = refuses (same ∙ h)
 
 pub its-counted : (card : List ℕ) {f : Format} (admitted : admission mostEntries card ≡ given f) {a : Answer Power}

@@ -20,7 +20,7 @@ use Rattle.sequence.specs.Many.{Power, two-to, no-build, howMany}
 use Rattle.sequence.proofs.ManyLaws.{many-one, exponent-one}
 use Rattle.counting.specs.declared.Number.{Number}
 use Rattle.counting.specs.declared.Number.the-variants as is
-use Rattle.counting.specs.Counting.{numberOf, countTests, Counted, counts, refuses, Counts}
+use Rattle.counting.specs.Counting.{numberOf, countTests, Counted, tells, refuses, Counts}
 use Rattle.counting.specs.ByKind.{ByKind, on-pairs, on-spans}
 
 -- ---- the tests
@@ -80,7 +80,7 @@ module _ {ts : List Test} {kind l : ℕ} {es : List Slot} where
 
   -- where the tests of the card or the lists hold, it goes by the kind
   pub kind-counts : {r : Number} → first ts sound ≡ given sound → ByKind kind l es r → Counts numberOf (Counted ts kind l es) r
-  kind-counts e (on-pairs p k m a) = record { said = given p; says = counts (hold-tests ts kind e k) m; answer = a }
+  kind-counts e (on-pairs p k m a) = record { said = given p; says = tells (hold-tests ts kind e k) m; answer = a }
   kind-counts e (on-spans k a) = record { said = refused Kind 0; says = refuses (span-refused ts kind e k); answer = a }
 
 -- ---- one answer at most
@@ -93,9 +93,9 @@ power-one no-build no-build e = refl
 
 pub counted-one : {ts : List Test} {kind l : ℕ} {es : List Slot} {a b : Answer Power} → Counted ts kind l es a → Counted ts kind l es b
     → a ≡ b
-counted-one (counts {p} e m) (counts {p = q} f n) = ap given (power-one p q (many-one m n))
-counted-one (counts e m) (refuses f) = absurd (given-not-refused (sym e ∙ f))
-counted-one (refuses e) (counts f n) = absurd (given-not-refused (sym f ∙ e))
+counted-one (tells {p} e m) (tells {p = q} f n) = ap given (power-one p q (many-one m n))
+counted-one (tells e m) (refuses f) = absurd (given-not-refused (sym e ∙ f))
+counted-one (refuses e) (tells f n) = absurd (given-not-refused (sym f ∙ e))
 counted-one (refuses e) (refuses f) = refusal-same (sym e ∙ f)
 
 -- in any form

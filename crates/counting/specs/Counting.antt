@@ -32,7 +32,7 @@ countTests kind ts = ts ++ (test (eqb kind pair) Kind 0 ∷ [])
 
 -- "For every pair card also report how many builds it has". A build is a sequence, so "Two choices that only swap equal words are one build."
 pub data Counted (ts : List Test) (kind l : ℕ) (es : List Slot) : Answer Power → Type 0 where
-  counts : {p : Power} → first (countTests kind ts) sound ≡ given sound → Many (Build l (pairEntries es)) (howMany p)
+  tells : {p : Power} → first (countTests kind ts) sound ≡ given sound → Many (Build l (pairEntries es)) (howMany p)
       → Counted ts kind l es (given p)
   refuses : {n q : ℕ} → first (countTests kind ts) sound ≡ refused n q → Counted ts kind l es (refused n q)
 

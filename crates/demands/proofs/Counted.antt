@@ -36,7 +36,7 @@ use Rattle.builds.specs.Building.{slotsOn, answerOf, Builds}
 use Rattle.builds.proofs.CardLaws.{order-held}
 use Rattle.counting.specs.declared.Number.{Number}
 use Rattle.counting.specs.declared.Number.the-variants as number
-use Rattle.counting.specs.Counting.{counts, refuses, OfCard, OfLists, numberOf, Counts}
+use Rattle.counting.specs.Counting.{tells, refuses, OfCard, OfLists, numberOf, Counts}
 use Rattle.counting.proofs.CountingLaws.{tests-hold, hold-tests, span-refused, counted-one}
 use Rattle.counting.proofs.CardLaws.{other-tests}
 use Rattle.counting.proofs.count_card.Statement as count-card
@@ -66,7 +66,7 @@ module _ (card : List ℕ) where
   of-pairs kind {n} m = subst (λ (k : ℕ). Many (Build (toldBy card .l) (map (entryOf k) (slotsOn card))) n) kind m
 
   said-means : {a : Answer Power} → OfCard mostEntries card a → NumberMeans card (numberOf a)
-  said-means (counts {p} e m) = let held = tests-hold (readingOrder mostEntries card) _ e in go p (held .0) (held .1) m
+  said-means (tells {p} e m) = let held = tests-hold (readingOrder mostEntries card) _ e in go p (held .0) (held .1) m
     where
       go : (p : Power) → first (readingOrder mostEntries card) sound ≡ given sound → toldBy card .kind ≡ pair
           → Many (Build (toldBy card .l) (pairEntries (slotsOn card))) (howMany p)
@@ -82,13 +82,13 @@ module _ (card : List ℕ) where
   means-number (number.Power k) (on, m) =
       record {
         said = given (two-to k);
-        says = counts (hold-tests (readingOrder mostEntries card) _ (on .admitted) (on .kind)) (of-pairs (on .kind) m);
+        says = tells (hold-tests (readingOrder mostEntries card) _ (on .admitted) (on .kind)) (of-pairs (on .kind) m);
         answer = refl;
       }
   means-number number.None (on, none) =
       record {
         said = given no-build;
-        says = counts (hold-tests (readingOrder mostEntries card) _ (on .admitted) (on .kind)) (of-pairs (on .kind) (many-none none));
+        says = tells (hold-tests (readingOrder mostEntries card) _ (on .admitted) (on .kind)) (of-pairs (on .kind) (many-none none));
         answer = refl;
       }
   means-number (number.Refused r) e = record { said = refused (r .number) (r .place); says = refuses e; answer = refl }
@@ -139,7 +139,7 @@ number-agrees {card} {before} kind c b settles =
     go : first (readingOrder mostEntries card) sound ≡ given sound → (v : Verdict) (n : ℕ) → Tells (Fits card) v → {a : Answer Power}
         → OfCard mostEntries card a
         → GoesWith (numberOf a) (answerOf (given (settled v n)))
-    go order v n t (counts {p} e m) = power-agrees v p n (many-by v t (as-pairs card kind m))
+    go order v n t (tells {p} e m) = power-agrees v p n (many-by v t (as-pairs card kind m))
     go order v n t (refuses e) = absurd (given-not-refused (sym (hold-tests (readingOrder mostEntries card) _ order kind) ∙ e))
 
 -- ---- the pair tables
@@ -172,4 +172,4 @@ table-number {card} c order t h on =
     map-agree (λ u. pairEntries (storedIn (u .table))) (λ u. u .table .entries) h all-stored in
     let is : Many (Build (toldBy card .l) (pairEntries (slotsOn card))) (howMany (t .builds)) =
     rw (on .letters, on .entries, same) (tables-counted t h) in
-    c .answer ∙ ap numberOf (counted-one (c .says) (counts {p = t .builds} (hold-tests (readingOrder mostEntries card) _ order kind) is))
+    c .answer ∙ ap numberOf (counted-one (c .says) (tells {p = t .builds} (hold-tests (readingOrder mostEntries card) _ order kind) is))

@@ -95,6 +95,11 @@ pub p1-twice-card : (card : List ℕ) × OnCard p1Twice card
     × ((room : ℕ) → lettersIn (toldBy card) ≤ room → first (buildTests mostEntries card room) sound ≡ given sound)
 p1-twice-card = card-of p1Twice (later lists.first)
 
+-- the verdicts that the two further tables state are true
+pub shown-told : Told (nearTable ∷ p1Twice ∷ [])
+unfolding verdictOf sequences overlaps
+shown-told = tables-told (nearTable ∷ p1Twice ∷ []) refl
+
 -- ---- two cards
 
 pub widened-self : (card : List ℕ) → Widened card card
@@ -106,10 +111,6 @@ widened-self card =
     }
 
 -- ---- a pair card with one place and with neighbours
-
-pub shown-told : Told (nearTable ∷ p1Twice ∷ [])
-unfolding verdictOf sequences overlaps
-shown-told = tables-told (nearTable ∷ p1Twice ∷ []) refl
 
 near-first : {x : Slot} {xs : List Slot} → Near x → AllNear xs → AllNear (x ∷ xs)
 near-first here more s h = ⊎-elim (λ e. rw e here) (more s) (in-cons h)

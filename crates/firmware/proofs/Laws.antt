@@ -8,7 +8,7 @@ use Rattle.block.specs.Block.{blockBytes, fetchTests, fetchOf}
 use Rattle.block.proofs.Laws.{holds-there, fetch-none, fetch-some, part-none, part-some, part-length}
 use Rattle.entries.specs.declared.Entry.{Entry}
 use Rattle.card.specs.Fetching.{more}
-use Rattle.sequence.specs.Many.{Power, two-to, no-build}
+use Rattle.sequence.specs.Many.{Power}
 use Rattle.sequence.specs.Verdict.{sole, several, noBuild, Outcome, settled, unsettled}
 use Rattle.builds.specs.Building.{answerOf, Builds}
 use Rattle.builds.specs.declared.BuildAnswer as builds
@@ -103,12 +103,7 @@ build-flat b e = record {
 
 -- ---- the number of builds
 
-number-same : (a : Answer Power) → flatNumber (numberOf a) ≡ countAnswer a
-number-same (given (two-to k)) = refl
-number-same (given no-build) = refl
-number-same (refused n p) = refl
-
 -- the struct of the number
 pub count-flat : {Says : Answer Power → Type 0} {r : Number} {result : CountAnswer} → Counts numberOf Says r → result ≡ flatNumber r
     → Counts countAnswer Says result
-count-flat c e = counts-as flatNumber number-same c e
+count-flat c e = counts-as flatNumber (λ a. refl) c e

@@ -22,7 +22,7 @@ use Rattle.writer.proofs.RefusalNumbers.{writing-number}
 use Rattle.sequence.specs.Many.{Power, two-to, no-build}
 use Rattle.sequence.specs.Verdict.{sole, several, noBuild, Outcome, settled, unsettled}
 use Rattle.builds.specs.Building.{buildTests, Says, tells, refuses}
-use Rattle.counting.specs.Counting.{countTests, Counted, counts, OfCard, OfLists, Counts}
+use Rattle.counting.specs.Counting.{countTests, Counted, OfCard, OfLists, Counts}
 use Rattle.counting.specs.Counting as counting
 use Rattle.counting.proofs.CountingLaws.{tests-numbered}
 use Rattle.firmware.specs.declared.building.BuildAnswer.{BuildAnswer}
@@ -84,7 +84,7 @@ module _ {ts : List Test} {kind l : ℕ} {es : List Slot} {result : CountAnswer}
   count-tells numbered e = rw (c .answer) (go (c .says))
     where
       go : {a : Answer Power} → Counted ts kind l es a → 0 < countAnswer a .number
-      go (counts hold _) = absurd (given-not-refused (sym hold ∙ e))
+      go (counting.tells hold _) = absurd (given-not-refused (sym hold ∙ e))
       go (counting.refuses fails) = numbered-refused (tests-numbered ts kind numbered) sound fails
 
   count-zero : first (countTests kind ts) sound ≡ given sound → result .number ≡ 0
@@ -95,7 +95,7 @@ module _ {ts : List Test} {kind l : ℕ} {es : List Slot} {result : CountAnswer}
       zero-in no-build = refl
 
       go : {a : Answer Power} → Counted ts kind l es a → countAnswer a .number ≡ 0
-      go (counts {p} hold _) = zero-in p
+      go (counting.tells {p} hold _) = zero-in p
       go (counting.refuses fails) = absurd (given-not-refused (sym e ∙ fails))
 
 module _ (limit : ℕ) (card : List ℕ) {result : CountAnswer} (c : Counts countAnswer (OfCard limit card) result) where

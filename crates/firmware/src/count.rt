@@ -5,8 +5,8 @@ ghost use Rattle.counting.specs.Counting.{OfCard, OfLists, Counts};
 ghost use Rattle.firmware.specs.Counting.{countAnswer, flatNumber};
 use counting::Number;
 
-// How many builds there are. The refusal's number is 0 where nothing is refused; then `any` is 1 and there are two to the exponent, or `any` is
-// 0 and there is none. Else the refusal has its place, and the rest is 0.
+// How many builds there are. The number is 0 where nothing is refused: then `any` is 1 and there are two to the exponent, or `any` and the
+// exponent are 0 and there is none. Else it is the refusal's, with its place, and the rest is 0.
 #[repr(C)]
 pub struct CountAnswer {
     pub number: usize,

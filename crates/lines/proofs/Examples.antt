@@ -82,5 +82,5 @@ other-lines = refl
 
 pub count-lines : map countLine (given (two-to 0) ∷ given (two-to 126) ∷ given no-build ∷ refused 5 0 ∷ refused 11 503 ∷ [])
     ≡ (ascii "builds 2^0\n" ∷ ascii "builds 2^126\n" ∷ ascii "builds 0\n" ∷ ascii "refused 5 0\n" ∷ ascii "refused 11 503\n" ∷ [])
-unfolding countLine decimal digitsIn
+unfolding decimal digitsIn
 count-lines = refl

@@ -127,7 +127,7 @@ module _ (limit : ℕ) (card : List ℕ) {bytes : List ℕ} where
 
 module _ {limit : ℕ} {card other : List ℕ} (alike : Alike limit card other) where
   counted-too : {a : Answer Power} → OfCard limit card a → OfCard limit other a
-  counted-too (counting.counts e m) = absurd (given-not-refused (sym e ∙ tests-refuse (readingOrder limit card) _ (alike .here)))
+  counted-too (counting.tells e m) = absurd (given-not-refused (sym e ∙ tests-refuse (readingOrder limit card) _ (alike .here)))
   counted-too (counting.refuses e) =
       counting.refuses
       (tests-refuse (readingOrder limit other) _ (alike .there) ∙ sym (tests-refuse (readingOrder limit card) _ (alike .here)) ∙ e)

@@ -1,20 +1,22 @@
 // What the program `count_builds` prints for a card: one line, with the number of its builds or with the refusal.
 ghost use Prim.Native.Nat.{_≤_};
 ghost use lib.ListN.{length};
+ghost use Rattle.answers.specs.Answer.{given};
 ghost use Rattle.layout.specs.Bounds.{mostEntries};
+ghost use Rattle.sequence.specs.Many.{two-to};
 ghost use Rattle.text.specs.Text.{Printed};
 ghost use Rattle.text.specs.Putting.{Put};
-ghost use Rattle.lines.specs.CountLine.{powerLine, CountReports};
+ghost use Rattle.lines.specs.CountLine.{countLine, CountReports};
 ghost use Rattle.lines.specs.Rooms.{powerRoom};
 use counting::Number;
 
-// Room for the line.
+// Room for the line; the longest is that of a refusal.
 pub const LINE: usize = 50;
 
 // The line of a card that has builds.
 fn put_power(out: &mut [u8], k: usize) -> usize
     requires { ⌜ powerRoom ≤ length (now out) ⌝ }
-    ensures { λ r. ⌜ Put (powerLine k) 0 (now (out .entry)) r (now (out .exit)) ⌝ }
+    ensures { λ r. ⌜ Put (countLine (given (two-to k))) 0 (now (out .entry)) r (now (out .exit)) ⌝ }
 {
     let k_at = text::put_text(out, 0, b"builds 2^");
     text::put_end(out, k_at, k)

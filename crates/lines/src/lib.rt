@@ -15,7 +15,7 @@ ghost use Rattle.lines.specs.Rooms.{nameBytes, cardRoom, refusalRoom};
 use answers::Refusal;
 use builds::BuildAnswer;
 
-// The budget that the program builds with.
+// The budget that `build` uses.
 const BUDGET: u32 = 1000000;
 // The letters of the longest sequence.
 const LETTERS: usize = layout::MOST + entries::MOST_LENGTH - 1;

@@ -108,7 +108,6 @@ module _ {l : ℕ} {words ones twos : List ℕ} (k : PairCard l words ones twos)
       record {
         worded = λ h. found-worded described ws n all (b .yes h);
         told = λ h. found-tells described ws n all (b .yes h);
-        none = λ h. none-tells described (b .no h);
         many = counted found refl;
       }
     where

@@ -16,7 +16,7 @@ use Rattle.sequence.specs.Build.{spell, Build}
 use Rattle.sequence.specs.Verdict.{Verdict, sole, several, noBuild, Tells}
 use Rattle.sequence.specs.Many.{Many}
 use Rattle.sequence.proofs.BuildLaws.{worded-one}
-use Rattle.sequence.proofs.ManyLaws.{many-one, exponent-one}
+use Rattle.sequence.proofs.ManyLaws.{many-one, many-empty, exponent-one}
 use Rattle.sequence.proofs.VerdictLaws.{tells-one}
 use Rattle.pairs.specs.Described.{verdictBy}
 use Rattle.pairs.specs.Settling.{pairEntries}
@@ -45,9 +45,9 @@ told-fits Fits (suc k) s t = t .0
 found-too : (f f′ : Bool) {l k k′ : ℕ} {es : List Slot} {ws vs : List ℕ} → Gives l es f k ws → Gives l es f′ k′ vs → f ≡ f′
 found-too true true p q = refl
 found-too true false {l} {k} {es} {ws} p q =
-    absurd (q .none refl (spell l ws) (told-fits (Build l (pairEntries es)) k (spell l ws) (p .told refl)))
+    absurd (many-empty (q .many) (spell l ws) (told-fits (Build l (pairEntries es)) k (spell l ws) (p .told refl)))
 found-too false true {l} {k′} {es} {vs} p q =
-    absurd (p .none refl (spell l vs) (told-fits (Build l (pairEntries es)) k′ (spell l vs) (q .told refl)))
+    absurd (many-empty (p .many) (spell l vs) (told-fits (Build l (pairEntries es)) k′ (spell l vs) (q .told refl)))
 found-too false false p q = refl
 
 -- ---- two outcomes are one

@@ -16,7 +16,7 @@ use lib.Dec.{eqb}
 use Rattle.entries.specs.declared.Slot.{Slot}
 use Rattle.entries.specs.Fault.{mostLength, noPlace, pairHolds}
 use Rattle.sequence.specs.Build.{spell, Build, Worded}
-use Rattle.sequence.specs.Verdict.{Tells, noBuild}
+use Rattle.sequence.specs.Verdict.{Tells}
 use Rattle.sequence.specs.Many.{Many, Power, two-to, no-build, howMany}
 use Rattle.pairs.specs.Described.{verdictBy}
 use Rattle.pairs.specs.Settling.{pairEntries}
@@ -65,5 +65,4 @@ powerBy true choices = two-to choices
 pub record Gives (l : ℕ) (es : List Slot) (found : Bool) (choices : ℕ) (ws : List ℕ) : Type 0 where
   pub worded : found ≡ true → Worded l (pairEntries es) ws
   pub told : found ≡ true → Tells (Build l (pairEntries es)) (verdictBy choices (spell l ws))
-  pub none : found ≡ false → Tells (Build l (pairEntries es)) noBuild
   pub many : Many (Build l (pairEntries es)) (howMany (powerBy found choices))

@@ -1,5 +1,5 @@
 -- How many sequences fit (request 12: "how many builds it has"). `Fits s` says that the sequence s fits.
---   Many Fits n      == just n sequences fit: a list of n has them all and no other, and no two of it are the same
+--   Many Fits n      == exactly n sequences fit: a list of n has them all and no other, and no two of it are the same
 --   Power            == two to a power, or that there is no build
 --   howMany p        == that as a number
 -- Assumes nothing.

@@ -1,8 +1,8 @@
 //! An independent reader and writer of spectrum cards, and builder of sequences from them.
 //!
-//! It is written from the scope document alone. Tests and comparisons set it
-//! beside the proved code, so it shares nothing with that one and takes its
-//! own way through the same rules:
+//! It is written from the scope document and request 12 alone. Tests and
+//! comparisons set it beside the proved code, so it shares nothing with that
+//! one and takes its own way through the same rules:
 //!
 //! * [`numbers`]: every number of the card, each in one place;
 //! * [`letters`]: the letters of words and builds;

@@ -6,7 +6,7 @@ use crate::profile::Kind;
 use crate::reader;
 use crate::refusal::Refusal;
 
-/// The budget that the program uses.
+/// The budget that `build` uses.
 pub const BUDGET: u32 = 1_000_000;
 
 /// The lines for a card, each ended by a newline; all of the input is the card.

@@ -1,4 +1,4 @@
-//! Tests of what the program prints.
+//! Tests of what the programs print.
 
 use super::*;
 use crate::cards::put_right;
