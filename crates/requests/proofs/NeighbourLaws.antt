@@ -34,8 +34,8 @@ use Rattle.sequence.specs.Verdict.{Widens}
 use Rattle.sequence.proofs.FillingLaws.{lt-or-le, same-or-not}
 use Rattle.sequence.proofs.ListLaws.{row-in, paired-map}
 use Rattle.builds.specs.Building.{slotsOn}
-use Rattle.demands.specs.Neighbours.{Near, AllNear, spanOf, Converted, Spanned, spanFormat, spanCard, spanTwos}
+use Rattle.requests.specs.Neighbours.{Near, AllNear, spanOf, Converted, Spanned, spanFormat, spanCard, spanTwos}
 use Rattle.demands.proofs.MeaningLaws.{made-slots}
 
 -- ---- the same places
 

@@ -24,11 +24,11 @@ use Rattle.spans.specs.Walk.{placements}
 use Rattle.builds.specs.declared.BuildAnswer.{BuildAnswer}
 use Rattle.builds.specs.Building.{lettersIn, buildTests, slotsOn, Means, answerOf, lettersAfter, Builds}
 use Rattle.builds.proofs.CardLaws.{has-room}
 use Rattle.demands.specs.Demanded.{Fits, Settles}
-use Rattle.demands.specs.Neighbours.{AllNear, Spanned, SameSaid, spanFormat, spanCard, spanTwos}
+use Rattle.requests.specs.Neighbours.{AllNear, Spanned, SameSaid, spanFormat, spanCard, spanTwos}
 use Rattle.demands.proofs.MeaningLaws.{settles-given, means-tells, means-placements, means-unsettled, says-means}
 use Rattle.demands.proofs.CompareLaws.{holds-given}
-use Rattle.demands.proofs.NeighbourLaws.{spans-wider, pairs-wider, near-accepted, span-card-told, span-card-spanned, span-card-reads}
+use Rattle.requests.proofs.NeighbourLaws.{spans-wider, pairs-wider, near-accepted, span-card-told, span-card-spanned, span-card-reads}
 
 -- ---- a pair card and its span card
 

@@ -1,0 +1,3 @@
+-- `Neighbours` is the span card that a pair card with neighbouring places becomes, `Counted` how many builds a pair card has.
+pub mod Neighbours
+pub mod Counted
