@@ -51,6 +51,9 @@ module _ {kind l : ℕ} {words ones twos : List ℕ} (s : Sound kind l words one
       go false true is not-span e = absurd (not-span refl)
       go false false is not-span e = is e
 
+  pub sound-as-spans : kind ≡ span → Sound span l words ones twos
+  sound-as-spans e = record { hold = rw e at (s .hold) }
+
   pub sound-as-pairs : (kind ≡ span → ⊥) → Sound pair l words ones twos
   sound-as-pairs n = record { hold = rw (sound-kind n) at (s .hold) }
 

@@ -25,14 +25,6 @@ use Rattle.counting.specs.ByKind.{ByKind, on-pairs, on-spans}
 
 -- ---- the tests
 
-numberIn : Answer Sound → ℕ
-numberIn (given s) = 0
-numberIn (refused n p) = n
-
-placeIn : Answer Sound → ℕ
-placeIn (given s) = 0
-placeIn (refused n p) = p
-
 module _ (ts : List Test) (kind : ℕ) where
   pub tests-refuse : {n p : ℕ} → first ts sound ≡ refused n p → first (countTests kind ts) sound ≡ refused n p
   unfolding countTests
@@ -60,13 +52,16 @@ module _ (ts : List Test) (kind : ℕ) where
   -- what refuses is a test of the card or the lists, or where they hold 5
   pub refusals : {n p : ℕ} → first (countTests kind ts) sound ≡ refused n p
       → (first ts sound ≡ refused n p) ⊎ ((first ts sound ≡ given sound) × (n ≡ Kind) × (p ≡ 0))
-  unfolding countTests numberIn placeIn
+  unfolding countTests
   refusals {n} {p} e = go (first ts sound) refl
     where
       kinds : (b : Bool) → first (test b Kind 0 ∷ []) sound ≡ refused n p → (n ≡ Kind) × (p ≡ 0)
       kinds true f = absurd (given-not-refused (sym (first-last true Kind 0 sound refl) ∙ f))
       kinds false f =
-          let same = sym (first-fail false Kind 0 [] sound refl) ∙ f in (sym (ap numberIn same), sym (ap placeIn same))
+          let same = sym (first-fail false Kind 0 [] sound refl) ∙ f in
+          let number : n ≡ Kind = cc in
+          let place : p ≡ 0 = cc in
+          (number, place)
 
       go : (a : Answer Sound) → first ts sound ≡ a → (first ts sound ≡ refused n p) ⊎ ((first ts sound ≡ given sound) × (n ≡ Kind) × (p ≡ 0))
       go (given sound) h = let k = kinds (eqb kind pair) (sym (first-holds _ sound ts h) ∙ e) in inr (h, k .0, k .1)
@@ -108,9 +103,6 @@ counts-one {form = form} c d = c .answer ∙ ap form (counted-one (c .says) (d .
 -- ---- another form
 
 -- by the enum of the answer
-pub counts-as : {R : Type 0} {form : Answer Power → R} (by : Number → R) {Says : Answer Power → Type 0} {q : Number} {r : R}
-    → ((a : Answer Power) → by (numberOf a) ≡ form a)
-    → Counts numberOf Says q
-    → r ≡ by q
-    → Counts form Says r
-counts-as by same c e = record { said = c .said; says = c .says; answer = e ∙ ap by (c .answer) ∙ same (c .said) }
+pub counts-as : {R : Type 0} (by : Number → R) {Says : Answer Power → Type 0} {q : Number} {r : R} → Counts numberOf Says q → r ≡ by q
+    → Counts (λ a. by (numberOf a)) Says r
+counts-as by c e = record { said = c .said; says = c .says; answer = e ∙ ap by (c .answer) }

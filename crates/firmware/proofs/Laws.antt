@@ -106,4 +106,4 @@ build-flat b e = record {
 -- the struct of the number
 pub count-flat : {Says : Answer Power → Type 0} {r : Number} {result : CountAnswer} → Counts numberOf Says r → result ≡ flatNumber r
     → Counts countAnswer Says result
-count-flat c e = counts-as flatNumber (λ a. refl) c e
+count-flat c e = counts-as flatNumber c e

@@ -1,6 +1,6 @@
 -- Laws of the line that `count_builds` prints: what is put by the answer is what is printed by what is said of the card. No contract cites
 -- this file. Assumes nothing.
-use mathlib.Core.Path.{_≡_, refl, sym, ap}
+use mathlib.Core.Path.{_≡_, sym, ap}
 use mathlib.Core.List.{List}
 use Prim.Native.Nat.{ℕ}
 use Rattle.answers.specs.Answer.{Answer}
@@ -16,4 +16,4 @@ use Rattle.lines.specs.CountLine.{lineBy, countLine}
 pub count-reported : {Says : Answer Power → Type 0} {n : ℕ} {out after : List ℕ} {r a : Number} → Counts numberOf Says r → r ≡ a
     → Put (lineBy a) 0 out n after
     → Printed (Counts countLine Says) out n after
-count-reported c e put = put-printed (counts-as lineBy (λ a. refl) c (ap lineBy (sym e))) put
+count-reported c e put = put-printed (counts-as lineBy c (ap lineBy (sym e))) put

@@ -44,8 +44,8 @@ use Rattle.counting.proofs.count_card.Met as count-card-met
 use Rattle.counting.proofs.count_lists.Statement as count-lists
 use Rattle.counting.proofs.count_lists.Met as count-lists-met
 use Rattle.demands.specs.Demanded.{Fits, Settles, kindOf, OnCard}
-use Rattle.requests.specs.Counted.{NumberMeans, GoesWith, CountedTable, countedTables}
 use Rattle.demands.proofs.MeaningLaws.{settles-given, means-tells, says-holds, says-means, made-slots}
+use Rattle.requests.specs.Counted.{NumberMeans, GoesWith, CountedTable, countedTables}
 
 -- ---- each call ends, with an answer that meets its contract
 

@@ -29,13 +29,13 @@ use Rattle.layout.proofs.LaidLaws.{card-told, card-laid}
 use Rattle.card.proofs.SoundLaws.{Reads}
 use Rattle.lists.specs.Lists.{formatFor}
 use Rattle.lists.proofs.Laws.{Accepted}
-use Rattle.sequence.specs.Lists.{Paired, here}
+use Rattle.sequence.specs.Lists.{Paired}
 use Rattle.sequence.specs.Verdict.{Widens}
 use Rattle.sequence.proofs.FillingLaws.{lt-or-le, same-or-not}
 use Rattle.sequence.proofs.ListLaws.{row-in, paired-map}
 use Rattle.builds.specs.Building.{slotsOn}
-use Rattle.requests.specs.Neighbours.{Near, AllNear, spanOf, Converted, Spanned, spanFormat, spanCard, spanTwos}
 use Rattle.demands.proofs.MeaningLaws.{made-slots}
+use Rattle.requests.specs.Neighbours.{Near, AllNear, spanOf, Converted, Spanned, spanFormat, spanCard, spanTwos}
 
 -- ---- the same places
 

@@ -1,6 +1,6 @@
 -- How many sequences fit: there is one number, what a map does to it, and what the verdict says of it. Assumes nothing.
 use mathlib.Core.Path.{_≡_, refl, sym, _∙_}
-use mathlib.Core.Logic.{_≢_, by-cases, ⊎-elim}
+use mathlib.Core.Logic.{_≢_, _⊎_, by-cases, ⊎-elim}
 use mathlib.Core.List.{List, [], _∷_, map}
 use Prim.Native.Nat.{ℕ, suc, _^_, _<_, _≤_}
 use native.Mathlib.Nat.{pow-suc}
@@ -9,10 +9,10 @@ use native.Mathlib.Decide.{ℕ-discrete, decLt}
 use lib.ListN.{length, length-map}
 use lib.Pow.{pow-lt, pow-pos}
 use Rattle.sequence.specs.Lists.{In, Rising, flat, rises, first, later}
-use Rattle.sequence.specs.Verdict.{Verdict, sole, several, noBuild, Tells}
+use Rattle.sequence.specs.Verdict.{Before, Verdict, sole, several, noBuild, Tells}
+use Rattle.sequence.specs.Many.{Many}
 use Rattle.sequence.proofs.ListLaws.{in-map, map-in, in-cast, rising-shorter, not-in-nil, in-cons}
 use Rattle.sequence.proofs.OrderLaws.{before-irr, before-or-after}
-use Rattle.sequence.specs.Many.{Many}
 
 -- as many as are in the one list are in the other
 pub many-one : {Fits : List ℕ → Type 0} {n n′ : ℕ} → Many Fits n → Many Fits n′ → n ≡ n′
@@ -26,6 +26,7 @@ pub many-none : {Fits : List ℕ → Type 0} → ((s : List ℕ) → Fits s → 
 many-none h =
     record { all = []; count = refl; differ = flat; fit = λ s x. absurd (not-in-nil x); none-else = λ s x. absurd (h s x) }
 
+-- where 0 fit, none does
 pub many-empty : {Fits : List ℕ → Type 0} → Many Fits 0 → (s : List ℕ) → Fits s → ⊥
 many-empty m s f = go (m .all) (m .count) (m .none-else s f)
   where
@@ -135,8 +136,10 @@ many-other {Fits} {n} l m s = go (m .all) (m .count) (m .differ) (m .fit)
     go [] k d f = absurd (omega arith)
     go (x ∷ []) k d f = absurd (omega arith)
     go (x ∷ y ∷ xs) k (rises up d) f =
-        ⊎-elim (λ e. (y, f y (later first), λ h. up y first (e ∙ sym h))) (λ b. (x, f x first, ⊎-elim (λ c h. before-irr s (rw h at c)) (λ c h. before-irr s (rw h at c)) b))
-        (before-or-after x s)
+        ⊎-elim (λ e. (y, f y (later first), λ h. up y first (e ∙ sym h))) (λ b. (x, f x first, apart b)) (before-or-after x s)
+      where
+        apart : Before x s ⊎ Before s x → x ≡ s → ⊥
+        apart b h = ⊎-elim (λ c. before-irr s (rw h at c)) (λ c. before-irr s (rw h at c)) b
 
 -- two to a power that is not 0
 pub two-or-more : (k : ℕ) → 2 ≤ 2 ^ suc k
