@@ -1,4 +1,4 @@
--- The numbers of the refusals (01, "What can come back"): a name for each row of the table. Assumes nothing.
+-- The numbers of the refusals (01, "What can come back", and the requests): a name for each row of the table. Assumes nothing.
 use Prim.Native.Nat.{ℕ}
 
 -- "card under 512 bytes"
@@ -56,3 +56,7 @@ Lists = 13
 -- "no such block or entry"
 abbrev pub Absent : ℕ
 Absent = 14
+
+-- request 11: "Wider with the first entry over 4"
+abbrev pub Wider : ℕ
+Wider = 30

@@ -39,3 +39,5 @@ pub const ROOM: usize = 12;
 pub const LISTS: usize = 13;
 
 pub const ABSENT: usize = 14;
+
+pub const WIDER: usize = 30;

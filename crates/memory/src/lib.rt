@@ -44,7 +44,7 @@ fn mark_of(marks: &[u8], e: u16) -> u64
 }
 
 // The marks of the entries of the list, as binary digits.
-fn bits_of(list: &[u16], marks: &[u8]) -> u64
+pub fn bits_of(list: &[u16], marks: &[u8]) -> u64
     requires { ⌜ Below (now list) (length (now marks)) ⌝ }
     requires { ⌜ length (now list) ≤ fewMarks ⌝ }
     ensures { λ r. ⌜ Bits (now (marks .entry)) (now (list .entry)) r ⌝ }

@@ -36,7 +36,7 @@ agrees-follows {l} (later-on {i} {want} {v} pos e) w =
     (λ h. eq-eqb (w / 4) want (sym (overlap-is l v w h) ∙ sym e)))
 
 -- an entry does not come before itself
-sooner-apart : (words twos : List ℕ) (j k : ℕ) → Sooner words twos j k → j ≡ k → ⊥
+pub sooner-apart : (words twos : List ℕ) (j k : ℕ) → Sooner words twos j k → j ≡ k → ⊥
 sooner-apart words twos j k (inl h) e = omega (arith, ap (λ x. getD words x 0) e)
 sooner-apart words twos j k (inr h) e = ⊎-elim (λ g. omega (arith, ap (λ x. getD twos x 0) e)) (λ g. omega (arith, g .1)) (h .1)
 

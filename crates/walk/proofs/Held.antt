@@ -176,7 +176,7 @@ module _ {words twos starts slots marks kept : List ℕ} {i placed state budget 
     }
       where
         there : hi′ ≤ length slots
-        there = omega (arith, open-is .to, list-ends ready inside lo-is hi-is)
+        there = omega (arith, open-is .to, list-ends (ready .prepared) inside lo-is hi-is)
 
         x-in : (x : ℕ) → k ≤ x → x < hi′ → In (getD slots x 0)
             (opened (keep (isDue twos marks i) (listAt starts slots i)) (listAt starts slots i))

@@ -6,25 +6,24 @@ use native.Mathlib.Omega.{arith}
 use native.Mathlib.Numerals.{add-one}
 use lib.ListN.{length, getD, take, drop}
 use Rattle.memory.specs.Memory.{Below}
-use Rattle.tables.specs.Prepared.{part, listAt}
+use Rattle.tables.specs.Prepared.{Prepared, part, listAt}
 use Rattle.walk.specs.Steps.{Listed}
-use Rattle.walk.specs.Going.{Ready}
 use Rattle.walk.proofs.StepLaws.{part-lent, in-part, list-is}
 
-module _ {words twos starts slots marks kept : List ℕ} {i placed state budget lo hi : ℕ}
-    (ready : Ready words twos starts slots marks kept i placed state budget) (inside : i < length words) (lo-is : lo ≡ getD starts i 0)
+module _ {words ones twos starts slots : List ℕ} {i lo hi : ℕ} (prepared : Prepared words ones twos starts slots) (inside : i < length words)
+    (lo-is : lo ≡ getD starts i 0)
     (hi-is : hi ≡ getD starts (i + 1) 0) where
   pub list-rises : lo ≤ hi
-  list-rises = omega (arith, rw (← add-one i) at (ready .prepared .starts-rise i inside))
+  list-rises = omega (arith, rw (← add-one i) at (prepared .starts-rise i inside))
 
   pub list-ends : hi ≤ length slots
-  list-ends = omega (arith, rw (← add-one i) at (ready .prepared .ends i inside))
+  list-ends = omega (arith, rw (← add-one i) at (prepared .ends i inside))
 
   -- its slots have entries of the card
   pub listed-start : Listed slots lo hi (length words)
   listed-start = record {
     ends = list-ends;
-    below = λ x from to. ready .prepared .here i (getD slots x 0) inside (rw table-is at (in-part slots lo hi x from to list-ends)) .0;
+    below = λ x from to. prepared .here i (getD slots x 0) inside (rw table-is at (in-part slots lo hi x from to list-ends)) .0;
   }
     where
       table-is : part slots lo hi ≡ listAt starts slots i
@@ -34,5 +33,5 @@ module _ {words twos starts slots marks kept : List ℕ} {i placed state budget 
   pub list-lent : take (hi - lo) (drop lo slots) ≡ listAt starts slots i
   list-lent = part-lent slots lo hi list-rises list-ends ∙ list-is slots starts i lo-is hi-is
 
-  pub list-below : Below (take (hi - lo) (drop lo slots)) (length marks)
-  list-below = rw (list-lent, ready .marks-all) record { each = λ j m. ready .prepared .here i j inside m .0 }
+  pub list-below : {n : ℕ} → n ≡ length words → Below (take (hi - lo) (drop lo slots)) n
+  list-below e = rw (list-lent, e) record { each = λ j m. prepared .here i j inside m .0 }

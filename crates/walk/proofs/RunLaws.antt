@@ -74,7 +74,7 @@ module _ (ok : ℕ → Bool) (word last : ℕ → ℕ) where
 
 -- ---- an entry that is marked is no longer left
 
-left-set : (marks : List ℕ) (e k : ℕ) → e < length marks → isLeft (set marks e 1) k ≡ (isLeft marks k && not (eqb k e))
+pub left-set : (marks : List ℕ) (e k : ℕ) → e < length marks → isLeft (set marks e 1) k ≡ (isLeft marks k && not (eqb k e))
 left-set marks e k h = go (eqb k e) refl
   where
     go : (t : Bool) → eqb k e ≡ t → isLeft (set marks e 1) k ≡ (isLeft marks k && not t)

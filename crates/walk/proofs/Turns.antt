@@ -24,12 +24,12 @@ use Rattle.walk.proofs.StepLaws.{opened-list}
 use Rattle.walk.proofs.Candidates.{Place, candidates, opened-below}
 use Rattle.walk.proofs.RunLaws.{fold-same, tries-in, tries-firsts, left-marked}
 
-rising-each : {R S : ℕ → ℕ → Type 0} {js : List ℕ} → ((j k : ℕ) → R j k → S j k) → Rising R js → Rising S js
+pub rising-each : {R S : ℕ → ℕ → Type 0} {js : List ℕ} → ((j k : ℕ) → R j k → S j k) → Rising R js → Rising S js
 rising-each h flat = flat
 rising-each h (rises {x = j} up r) = rises (λ k m. h j k (up k m)) (rising-each h r)
 
 -- the order of a place's list is the order in which the walk picks
-sooner-is : (words ones twos : List ℕ) (j k : ℕ) → Sooner words twos j k
+pub sooner-is : (words ones twos : List ℕ) (j k : ℕ) → Sooner words twos j k
     → order.Sooner (λ x. spanAt words ones twos x .word) (λ x. spanAt words ones twos x .two) j k
 sooner-is words ones twos j k (inl h) = record { words = omega arith; ahead = λ e. absurd (omega arith) }
 sooner-is words ones twos j k (inr h) = record {

@@ -49,7 +49,7 @@ keep-all : (marks : List ℕ) → Unmarked marks → (i n : ℕ) → i + n ≤ l
 keep-all marks u i zero h = refl
 keep-all marks u i (suc n) h = rw (u .each i (omega arith)) (ap (λ l. i ∷ l) (keep-all marks u (suc i) n (omega arith)))
 
-numbers-row : (words ones twos : List ℕ) (i n : ℕ) → map (spanAt words ones twos) (numbers i n) ≡ row (slotFrom words ones twos) i n
+pub numbers-row : (words ones twos : List ℕ) (i n : ℕ) → map (spanAt words ones twos) (numbers i n) ≡ row (slotFrom words ones twos) i n
 numbers-row words ones twos i zero = sym (row-none (slotFrom words ones twos) i)
 numbers-row words ones twos i (suc n) =
     let e = slot-from words ones twos i in
@@ -72,7 +72,7 @@ entered {l} {words} {ones} {twos} card = record {
   spans = λ e h. let u = in-row (slotFrom words ones twos) 0 (length words) h in rw (u .2) (spans-rise card (u .0) (omega (arith, u .1)));
 }
 
-map-none : (reached : List (List ℕ)) → map (λ ws. [] ++ ws) reached ≡ reached
+pub map-none : (reached : List (List ℕ)) → map (λ ws. [] ++ ws) reached ≡ reached
 map-none [] = refl
 map-none (ws ∷ reached) = ap (λ r. ws ∷ r) (map-none reached)
 

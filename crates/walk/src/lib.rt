@@ -30,10 +30,10 @@ struct Slots {
 }
 
 // What no word is.
-const NO_WORD: u32 = 4294967295;
+pub const NO_WORD: u32 = 4294967295;
 
 // Entry number k of a list.
-fn at16(s: &[u16], k: usize) -> usize
+pub fn at16(s: &[u16], k: usize) -> usize
     requires { ⌜ k < length (now s) ⌝ }
     ensures { λ r. ⌜ r ≡ getD (now (s .entry)) k 0 ⌝ }
 {
@@ -41,7 +41,7 @@ fn at16(s: &[u16], k: usize) -> usize
 }
 
 // Where list number k begins.
-fn start_of(s: &[u32], k: usize) -> usize
+pub fn start_of(s: &[u32], k: usize) -> usize
     requires { ⌜ k < length (now s) ⌝ }
     ensures { λ r. ⌜ r ≡ getD (now (s .entry)) k 0 ⌝ }
 {
@@ -49,7 +49,7 @@ fn start_of(s: &[u32], k: usize) -> usize
 }
 
 // Whether the word w may stand at the place i, after a word whose last letters are `want`.
-fn agrees(w: u32, i: usize, want: u32) -> bool
+pub fn agrees(w: u32, i: usize, want: u32) -> bool
     ensures { λ r. ⌜ r ≡ agrees i want w ⌝ }
 {
     if w / 4 == want {
@@ -74,7 +74,7 @@ fn can_try(words: &[u32], marks: &[u8], e: usize, i: usize, want: u32, tried: u3
 }
 
 // Whether the entry e is left and ends at i.
-fn is_due(twos: &[u16], marks: &[u8], e: usize, i: usize) -> bool
+pub fn is_due(twos: &[u16], marks: &[u8], e: usize, i: usize) -> bool
     requires { ⌜ (e < length (now twos)) × (e < length (now marks)) ⌝ }
     ensures { λ r. ⌜ r ≡ isDue (now (twos .entry)) (now (marks .entry)) i e ⌝ }
 {

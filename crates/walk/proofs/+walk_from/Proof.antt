@@ -87,7 +87,7 @@ walk-from-key-of-requires t c κs =
     let at = bounds t (c .before .before .before) in
     let card = ready t (placed-with t at) in
     let there = inside t (at-place t at) in
-    (list-below card there (lo-is t at) (end-is t at), omega (arith, there, card .numbered))
+    (list-below (card .prepared) there (lo-is t at) (end-is t at) (card .marks-all), omega (arith, there, card .numbered))
 
 walk-from-recall-requires : (t : ℕ)
     → walk-from-lts.Need-recall-requires (calls t) (walk-from-at t) walk-from.Post walk-from-Inv-loop walk-from-μ-loop

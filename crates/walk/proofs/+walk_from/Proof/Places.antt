@@ -182,15 +182,15 @@ module _ (t : ℕ) (c : Bounded t) where
   pub in-slots : (c .before .start-of .result ≤ c .start-of2 .result) × (c .start-of2 .result ≤ length (placed-with .args .slots .now))
   in-slots =
       let card = ready t placed-with in
-      (list-rises card (inside t at-place) lo-is end-is, list-ends card (inside t at-place) lo-is end-is)
+      (list-rises (card .prepared) (inside t at-place) lo-is end-is, list-ends (card .prepared) (inside t at-place) lo-is end-is)
 
   -- the code lends it as a part
   pub lent-list : take (c .start-of2 .result - c .before .start-of .result) (drop (c .before .start-of .result) (placed-with .args .slots .now))
       ≡ listAt (placed-with .args .starts .now) (placed-with .args .slots .now) (placed-with .args .i)
-  lent-list = list-lent (ready t placed-with) (inside t at-place) lo-is end-is
+  lent-list = list-lent (ready t placed-with .prepared) (inside t at-place) lo-is end-is
 
   pub list : Listed (placed-with .args .slots .now) (c .before .start-of .result) (c .start-of2 .result) (length (placed-with .args .words .now))
-  list = listed-start (ready t placed-with) (inside t at-place) lo-is end-is
+  list = listed-start (ready t placed-with .prepared) (inside t at-place) lo-is end-is
 
 -- slot k is the first that is tried
 module _ (t : ℕ) (c : Tried t) where

@@ -1,0 +1,69 @@
+-- Laws of digits: who is picked by the digits that were told, and what a number is that is taken apart from its end. Assumes nothing.
+use mathlib.Core.Path.{_≡_, refl, sym, ap, _∙_}
+use mathlib.Core.Bool.{Bool, true, false, cond, _&&_, not}
+use mathlib.Core.List.{List, [], _∷_}
+use Prim.Native.Nat.{ℕ, suc, _+_, _*_, _/_, _%_, _^_, _<_}
+use native.Mathlib.Omega.{arith}
+use native.Mathlib.Nat.{pow-suc, pow-zero, div-one, div-div-eq-div-mul}
+use lib.Dec.{eqb}
+use lib.ListN.{length}
+use borrow.Author.Tests.{eq-eqb, ne-eqb}
+use Rattle.sequence.specs.Lists.{In, keep}
+use Rattle.walk.specs.Steps.{tries}
+use Rattle.layering.specs.Digits.{digit, picked, told}
+
+-- ---- a digit
+
+last-digit : (b : Bool) (c : ℕ) → (2 * c + digit b) % 2 ≡ digit b
+last-digit true c = omega arith
+last-digit false c = omega arith
+
+front-digits : (b : Bool) (c : ℕ) → (2 * c + digit b) / 2 ≡ c
+front-digits true c = omega arith
+front-digits false c = omega arith
+
+is-digit : (b : Bool) → eqb (digit b) 1 ≡ b
+is-digit true = refl
+is-digit false = refl
+
+-- ---- what is told
+
+module _ (ok leads : ℕ → Bool) (word : ℕ → ℕ) where
+  -- the digits after c leave c
+  told-front : (c w : ℕ) (js : List ℕ) → told ok leads word c w js / 2 ^ length js ≡ c
+  unfolding told
+  told-front c w [] = ap (λ n. c / n) (pow-zero 2) ∙ div-one c
+  told-front c w (j ∷ js) = go (ok j && not (eqb (word j) w)) (told-front (2 * c + digit (leads j)) (word j) js) (told-front (2 * c) w js)
+    where
+      less : (x b : ℕ) → b / 2 ≡ c → x / 2 ^ length js ≡ b → x / 2 ^ suc (length js) ≡ c
+      less x b h e =
+          ap (λ n. x / n) (pow-suc 2 (length js)) ∙ sym (div-div-eq-div-mul x (2 ^ length js) 2) ∙ ap (λ n. n / 2) e ∙ h
+
+      go : (t : Bool) → told ok leads word (2 * c + digit (leads j)) (word j) js / 2 ^ length js ≡ 2 * c + digit (leads j)
+          → told ok leads word (2 * c) w js / 2 ^ length js ≡ 2 * c
+          → cond t (told ok leads word (2 * c + digit (leads j)) (word j) js) (told ok leads word (2 * c) w js) / 2 ^ suc (length js) ≡ c
+      go true e f = less _ _ (front-digits (leads j) c) e
+      go false e f = less _ _ (omega arith) f
+
+  -- those that are tried and lead on are picked
+  pub told-picked : (c w : ℕ) (js : List ℕ) → picked (told ok leads word c w js) js ≡ keep leads (tries ok word w js)
+  unfolding told picked tries
+  told-picked c w [] = refl
+  told-picked c w (j ∷ js) =
+      go (ok j && not (eqb (word j) w)) (told-picked (2 * c + digit (leads j)) (word j) js) (told-picked (2 * c) w js)
+    where
+      new : (x : ℕ) → x / 2 ^ length js ≡ 2 * c + digit (leads j) → picked x js ≡ keep leads (tries ok word (word j) js)
+          → cond (eqb (x / 2 ^ length js % 2) 1) (j ∷ picked x js) (picked x js) ≡ keep leads (j ∷ tries ok word (word j) js)
+      new x front more = rw (front, last-digit (leads j) c, is-digit (leads j), more)
+
+      old : (x : ℕ) → x / 2 ^ length js ≡ 2 * c → picked x js ≡ keep leads (tries ok word w js)
+          → cond (eqb (x / 2 ^ length js % 2) 1) (j ∷ picked x js) (picked x js) ≡ keep leads (tries ok word w js)
+      old x front more = let even : 2 * c % 2 ≡ 0 = omega arith in rw (front, even, more)
+
+      go : (t : Bool)
+          → picked (told ok leads word (2 * c + digit (leads j)) (word j) js) js ≡ keep leads (tries ok word (word j) js)
+          → picked (told ok leads word (2 * c) w js) js ≡ keep leads (tries ok word w js)
+          → picked (cond t (told ok leads word (2 * c + digit (leads j)) (word j) js) (told ok leads word (2 * c) w js)) (j ∷ js)
+          ≡ keep leads (cond t (j ∷ tries ok word (word j) js) (tries ok word w js))
+      go true e f = new _ (told-front (2 * c + digit (leads j)) (word j) js) e
+      go false e f = old _ (told-front (2 * c) w js) f

@@ -1,0 +1,11 @@
+pub mod DigitLaws
+pub mod ChooseLaws
+pub mod TriedLaws
+pub mod PlaceLaws
+pub mod SpreadLaws
+pub mod StateLaws
+pub mod TrialLaws
+pub mod SideLaws
+pub mod SweepLaws
+pub mod ReadLaws
+pub mod SettleLaws

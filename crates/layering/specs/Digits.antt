@@ -1,0 +1,37 @@
+-- Some of a list's entries as a number: a binary digit for each entry of the list, the first most significant, as `bitsOf` of `memory` has
+-- the marks of a list.
+--   digit b                       == 1 or 0
+--   picked c js                   == those of the list js whose digit in c is 1
+--   told ok leads word c w js     == c, and after it a digit for each of js: 1 for one that is tried and leads on, where w was the last word tried
+--   Apart js                      == no entry is twice in the list
+--   Spread list marks b marks′    == the digits of b are the marks of the list, and the other marks are as they were
+-- Assumes nothing.
+use mathlib.Core.Path.{_≡_}
+use mathlib.Core.Bool.{Bool, cond, _&&_, not}
+use mathlib.Core.List.{List, [], _∷_}
+use Prim.Native.Nat.{ℕ, _+_, _*_, _/_, _%_, _^_, _≤_, _<_}
+use lib.Dec.{eqb}
+use lib.ListN.{length, getD}
+use Rattle.sequence.specs.Lists.{In, Rising}
+use Rattle.memory.specs.Memory.{bitsOf}
+
+abbrev pub digit : Bool → ℕ
+digit b = cond b 1 0
+
+unfoldable pub picked : ℕ → List ℕ → List ℕ
+picked c [] = []
+picked c (j ∷ js) = cond (eqb (c / 2 ^ length js % 2) 1) (j ∷ picked c js) (picked c js)
+
+unfoldable pub told : (ℕ → Bool) → (ℕ → Bool) → (ℕ → ℕ) → ℕ → ℕ → List ℕ → ℕ
+told ok leads word c w [] = c
+told ok leads word c w (j ∷ js) =
+    cond (ok j && not (eqb (word j) w)) (told ok leads word (2 * c + digit (leads j)) (word j) js) (told ok leads word (2 * c) w js)
+
+pub record Apart (js : List ℕ) : Type 0 where
+  pub each : Rising (λ j k. j ≡ k → ⊥) js
+
+pub record Spread (list marks : List ℕ) (b : ℕ) (marks′ : List ℕ) : Type 0 where
+  pub all : length marks′ ≡ length marks
+  pub digits : bitsOf marks′ list ≡ b
+  pub small : (j : ℕ) → In j list → getD marks′ j 0 ≤ 1
+  pub others : (j : ℕ) → (In j list → ⊥) → getD marks′ j 0 ≡ getD marks j 0

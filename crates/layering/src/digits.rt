@@ -1,0 +1,68 @@
+// Some of a list's entries as a number, with a binary digit for each: the marks of a list, and those of it that are picked.
+ghost use mathlib.Core.Path.{_≡_};
+ghost use mathlib.Core.Bool.{_&&_};
+ghost use Prim.Native.Nat.{_%_, _^_, _<_};
+ghost use lib.Dec.{eqb};
+ghost use lib.ListN.{length, drop};
+ghost use Rattle.memory.specs.Memory.{Below};
+ghost use Rattle.walk.specs.Steps.{agrees};
+ghost use Rattle.layering.specs.Digits.{picked, Apart, Spread};
+ghost use Rattle.layering.specs.States.{agreeing};
+ghost use Rattle.layering.specs.Choosing.{Chooses};
+
+// Who is chosen of a list: where the first stands, or the list's length, and whether there is another.
+pub struct Chosen {
+    pub at: usize,
+    pub more: bool,
+}
+
+// Whether the last digit of c is 1, and the word w may stand at the place i, after a word whose last letters are `want`.
+fn is_picked(c: u8, w: u32, i: usize, want: u32) -> bool
+    ensures { λ r. ⌜ r ≡ (eqb (c % 2) 1 && agrees i want w) ⌝ }
+{
+    if c % 2 == 1 {
+        return walk::agrees(w, i, want);
+    }
+    false
+}
+
+// Of the entries of the list those that c picks and whose word agrees: the first, and whether there is another.
+pub fn choose(list: &[u16], words: &[u32], c: u8, i: usize, want: u32) -> Chosen
+    requires { ⌜ Below (now list) (length (now words)) ⌝ }
+    ensures { λ r. ⌜
+        Chooses (now (list .entry)) (agreeing (now (words .entry)) i want (picked c (now (list .entry)))) (r .at) (r .more)
+        ⌝ }
+{
+    let n = list.len();
+    let mut at = n;
+    let mut more = false;
+    let mut k = n;
+    let mut rest = c;
+    while 0 < k {
+        k -= 1;
+        let e = walk::at16(list, k);
+        if is_picked(rest, words[e], i, want) {
+            more = at < n;
+            at = k;
+        }
+        rest = rest / 2;
+    }
+    Chosen { at, more }
+}
+
+// Marks the entries of the list by the digits of b.
+pub fn spread(list: &[u16], marks: &mut [u8], b: usize)
+    requires { ⌜ Below (now list) (length (now marks)) ⌝ }
+    requires { ⌜ Apart (now list) ⌝ }
+    requires { ⌜ b < 2 ^ length (now list) ⌝ }
+    ensures { λ _. ⌜ Spread (now (list .entry)) (now (marks .entry)) b (now (marks .exit)) ⌝ }
+{
+    let mut k = list.len();
+    let mut rest = b;
+    while 0 < k {
+        k -= 1;
+        let e = walk::at16(list, k);
+        marks[e] = (rest % 2) as u8;
+        rest = rest / 2;
+    }
+}

@@ -1,0 +1,117 @@
+// The sweep back over the places: from the last to the first, in the cell of each state that is kept its chances.
+ghost use mathlib.Core.Path.{_≡_};
+ghost use Prim.Native.Nat.{_+_, _-_, _^_, _≤_, _<_};
+ghost use lib.ListN.{length, getD};
+ghost use Rattle.layers.specs.Narrow.{mostOver};
+ghost use Rattle.layering.specs.States.{Laid, Sides};
+ghost use Rattle.layering.specs.Sweeping.{Marked, Half, Sweeping};
+use crate::chances;
+use crate::chances::CELLS;
+use crate::digits;
+
+// How many sets n entries have.
+fn sets_of(n: usize) -> usize
+    requires { ⌜ n ≤ mostOver ⌝ }
+    ensures { λ r. ⌜ r ≡ 2 ^ n ⌝ }
+{
+    1usize << n
+}
+
+// The state at the place i with the digits b: where it is kept, its chances take its cell.
+fn sweep_state(
+    l: usize,
+    words: &[u32],
+    ones: &[u16],
+    twos: &[u16],
+    starts: &[u32],
+    slots: &[u16],
+    marks: &mut [u8],
+    table: &mut [u8],
+    i: usize,
+    b: usize,
+)
+    requires { ⌜ Sweeping l (now words) (now ones) (now twos) (now starts) (now slots) (now marks) (now table) i (b + 1) ⌝ }
+    requires { ⌜ b < 2 ^ (getD (now starts) (i + 1) 0 - getD (now starts) i 0) ⌝ }
+    ensures { λ _. ⌜
+        Sweeping l (now (words .entry)) (now (ones .entry)) (now (twos .entry)) (now (starts .entry)) (now (slots .entry))
+        (now (marks .exit)) (now (table .exit)) i b
+        ⌝ }
+{
+    let cell = CELLS * i + b;
+    if table[cell] == 0 {
+        return;
+    }
+    let lo = walk::start_of(starts, i);
+    let end = walk::start_of(starts, i + 1);
+    digits::spread(&slots[lo..end], marks, b);
+    table[cell] = chances::chances(l, words, ones, twos, starts, slots, marks, table, i);
+}
+
+// The states at the place i. Then the entries of its list are left, as they are before any place ahead of it is filled.
+fn sweep_place(
+    l: usize,
+    words: &[u32],
+    ones: &[u16],
+    twos: &[u16],
+    starts: &[u32],
+    slots: &[u16],
+    marks: &mut [u8],
+    table: &mut [u8],
+    i: usize,
+)
+    requires { ⌜ Laid l (now words) (now ones) (now twos) (now starts) (now slots) × (i < length (now words)) ⌝ }
+    requires { ⌜ Sides (now words) (now ones) (now twos) (now marks) (i + 1) (i + 1) ⌝ }
+    requires { ⌜ Half l (now words) (now ones) (now twos) (now starts) (now slots) (now table) (i + 1) 0 ⌝ }
+    ensures { λ _. ⌜ Sides (now (words .entry)) (now (ones .entry)) (now (twos .entry)) (now (marks .exit)) i i ⌝ }
+    ensures { λ _. ⌜
+        Half l (now (words .entry)) (now (ones .entry)) (now (twos .entry)) (now (starts .entry)) (now (slots .entry))
+        (now (table .exit)) i 0
+        ⌝ }
+{
+    let lo = walk::start_of(starts, i);
+    let end = walk::start_of(starts, i + 1);
+    let mut b = sets_of(end - lo);
+    while 0 < b {
+        b -= 1;
+        sweep_state(l, words, ones, twos, starts, slots, marks, table, i, b);
+    }
+    digits::spread(&slots[lo..end], marks, 0);
+}
+
+// Every number of the list is 1: every entry is marked, or every state is kept.
+pub fn mark_all(marks: &mut [u8])
+    ensures { λ _. ⌜ Marked (now (marks .entry)) (now (marks .exit)) ⌝ }
+{
+    let mut k = 0;
+    while k < marks.len() {
+        marks[k] = 1;
+        k += 1;
+    }
+}
+
+// All places, from the last to the first. Then every entry is left again.
+pub fn sweep(
+    l: usize,
+    words: &[u32],
+    ones: &[u16],
+    twos: &[u16],
+    starts: &[u32],
+    slots: &[u16],
+    marks: &mut [u8],
+    table: &mut [u8],
+)
+    requires { ⌜ Laid l (now words) (now ones) (now twos) (now starts) (now slots) × (length (now marks) ≡ length (now words)) ⌝ }
+    requires { ⌜ Half l (now words) (now ones) (now twos) (now starts) (now slots) (now table) (length (now words)) 0 ⌝ }
+    ensures { λ _. ⌜ Sides (now (words .entry)) (now (ones .entry)) (now (twos .entry)) (now (marks .exit)) 0 0 ⌝ }
+    ensures { λ _. ⌜
+        Half l (now (words .entry)) (now (ones .entry)) (now (twos .entry)) (now (starts .entry)) (now (slots .entry))
+        (now (table .exit)) 0 0
+        ⌝ }
+{
+    mark_all(marks);
+    let mut i = words.len();
+    while 0 < i {
+        i -= 1;
+        sweep_place(l, words, ones, twos, starts, slots, marks, table, i);
+    }
+}

@@ -1,0 +1,14 @@
+-- What an answer on a narrow span card means (02, section 11).
+--   Means l es o     == the outcome o is true of the entries es, over all builds
+-- Assumes nothing.
+use mathlib.Core.List.{List}
+use Prim.Native.Nat.{ℕ}
+use Rattle.entries.specs.declared.Slot.{Slot}
+use Rattle.sequence.specs.Build.{Build}
+use Rattle.sequence.specs.Verdict.{Verdict, Tells, Outcome, settled}
+use Rattle.spans.specs.Settling.{spanEntries}
+
+-- "It answers Sole, Several or None with no budget, each meaning what demand 2 says of it whether or not build would settle, and its
+-- placements are 0."
+pub data Means (l : ℕ) (es : List Slot) : Outcome → Type 0 where
+  settles : {v : Verdict} → Tells (Build l (spanEntries es)) v → Means l es (settled v 0)
