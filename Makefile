@@ -4,7 +4,7 @@
 # make install    puts the programs, their manual pages and the C header below PREFIX, by default /usr/local; DESTDIR goes before it
 # make bench      times the compiled library beside the second implementation
 # make soak       compares them on COUNT random calls, by default 10000000; SEED=N for other calls
-# make vectors    writes the stored vectors and counts anew from the second implementation
+# make vectors    writes the stored vectors and calls anew from the second implementation
 # make samples    lays the sample cards out anew from their tables
 export CARGO_TARGET_DIR := $(CURDIR)/target/cargo
 export CARGO_NET_OFFLINE := true
@@ -23,7 +23,7 @@ all:
 	rt check
 
 programs:
-	rt check build count_builds
+	rt check build settle count_builds
 
 run: programs
 	tests/x86 target/bin/build < $(CARD)
@@ -33,8 +33,8 @@ test:
 
 install: programs
 	install -d $(DESTDIR)$(PREFIX)/bin $(DESTDIR)$(PREFIX)/share/man/man1 $(DESTDIR)$(PREFIX)/include
-	install -m 755 target/bin/build target/bin/count_builds $(DESTDIR)$(PREFIX)/bin
-	install -m 644 man/build.1 man/count_builds.1 $(DESTDIR)$(PREFIX)/share/man/man1
+	install -m 755 target/bin/build target/bin/settle target/bin/count_builds $(DESTDIR)$(PREFIX)/bin
+	install -m 644 man/build.1 man/settle.1 man/count_builds.1 $(DESTDIR)$(PREFIX)/share/man/man1
 	install -m 644 include/belfrymist.h $(DESTDIR)$(PREFIX)/include/belfrymist.h
 
 archive:
@@ -51,7 +51,7 @@ soak: archive
 
 vectors:
 	cd second && cargo run --release --quiet --bin make_vectors $(CURDIR)/crates/vectors
-	cd second && cargo run --release --quiet --bin make_counts $(CURDIR)/crates/counts
+	cd second && cargo run --release --quiet --bin make_calls $(CURDIR)/crates/calls
 
 samples:
 	python3 samples/make.py samples

@@ -59,7 +59,7 @@ static int built(const belfrymist_build_answer *answer, const uint8_t *letters)
         return 0;
     case BELFRYMIST_UNSETTLED:
         printf("unsettled %zu\n", answer->placements);
-        fprintf(stderr, "the budget ran out: whether a sequence fits is not known\n");
+        fprintf(stderr, "the budget ran out: whether a sequence fits is not known; where no span is over 4 wide, belfrymist_settle tells\n");
         return 0;
     default:
         fprintf(stderr, "no verdict has this number: %zu\n", answer->verdict);

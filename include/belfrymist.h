@@ -1,4 +1,5 @@
-/* Spectrum cards: admitting, reading and writing them, building the sequence, and counting builds. For firmware, in C99 and in C++.
+/* Spectrum cards: admitting, reading and writing them, building the sequence, settling narrow cards, and counting builds. For firmware, in C99
+ * and in C++.
  *
  * Link libfirmware.a, which `tests/archive FOLDER` writes for x86-64. Each function is proved to meet its contract, which stands over
  * the function of the same name in crates/firmware/src/. This file says the same in words; where the two differ, the contract is right.
@@ -35,15 +36,21 @@ enum {
     BELFRYMIST_LEAST_LETTERS = 2,       /* l, the letters of a word, is from this ... */
     BELFRYMIST_MOST_LETTERS = 12,       /* ... to this */
     BELFRYMIST_MOST_WIDTH = 8,          /* the places of a span */
+    BELFRYMIST_MOST_NARROW = 4,         /* the places of a span that belfrymist_settle takes */
     BELFRYMIST_MOST_CARD = 4608,        /* bytes of the largest card */
     BELFRYMIST_MOST_SEQUENCE = 515,     /* letters of the longest sequence: room for every build */
     BELFRYMIST_NO_SECOND_PLACE = 65535  /* place two of an entry that has one place, on a pair card */
 };
 
-/* Bytes of stack that a call of belfrymist_build takes at most, one that counts builds, and any other call: measured on x86-64 over the
- * samples and the largest cards of both kinds, and not proved. Building takes about 61,000 bytes on a pair card, and on a span card about
- * 28,300 and 320 more for each entry that it places. */
-enum { BELFRYMIST_STACK = 196608, BELFRYMIST_STACK_COUNTING = 40960, BELFRYMIST_STACK_READING = 512 };
+/* Bytes of stack that a call of belfrymist_build takes at most, one that settles, one that counts builds, and any other call: measured on x86-64
+ * over the samples and the largest cards of both kinds, and not proved. Building takes about 61,000 bytes on a pair card, and on a span card
+ * about 28,300 and 320 more for each entry that it places. Settling takes as much for a small card as for a full one. */
+enum {
+    BELFRYMIST_STACK = 196608,
+    BELFRYMIST_STACK_SETTLING = 90112,
+    BELFRYMIST_STACK_COUNTING = 40960,
+    BELFRYMIST_STACK_READING = 512
+};
 
 /* The kinds of card. */
 enum { BELFRYMIST_PAIR = 1, BELFRYMIST_SPAN = 2 };
@@ -71,7 +78,8 @@ enum {
     BELFRYMIST_REFUSED_CHECK = 2,        /* a check byte of a block differs; the block */
     BELFRYMIST_REFUSED_INDEX = 3,        /* a block's index differs; the block */
     BELFRYMIST_REFUSED_FORM = 4,         /* the form is not 1; place 0 */
-    BELFRYMIST_REFUSED_KIND = 5,         /* the kind is neither 1 nor 2, or a span card has its builds counted; place 0 */
+    BELFRYMIST_REFUSED_KIND = 5,         /* the kind is neither 1 nor 2; also a span card where builds are counted, and a pair card
+                                            for belfrymist_settle; place 0 */
     BELFRYMIST_REFUSED_WORD_LENGTH = 6,  /* l is outside 2 to 12; place 0 */
     BELFRYMIST_REFUSED_COUNT = 7,        /* m is outside 1 to 504; place 0 */
     BELFRYMIST_REFUSED_SPARE = 8,        /* a byte that must be zero is not; the block */
@@ -80,7 +88,8 @@ enum {
     BELFRYMIST_REFUSED_PLACES = 11,      /* places out of order, beyond m - 1, or a span over 8 wide; the entry */
     BELFRYMIST_REFUSED_ROOM = 12,        /* the output is too short; place 0 */
     BELFRYMIST_REFUSED_LISTS = 13,       /* the three lists differ in length; place 0 */
-    BELFRYMIST_REFUSED_ABSENT = 14       /* there is no such block or entry; place 0 */
+    BELFRYMIST_REFUSED_ABSENT = 14,      /* there is no such block or entry; place 0 */
+    BELFRYMIST_REFUSED_WIDER = 30        /* for belfrymist_settle, a span is over 4 wide; the first such entry */
 };
 
 typedef struct {
@@ -121,7 +130,7 @@ typedef struct {
     size_t number, place;
     size_t verdict;
     size_t length;     /* letters of the sequence that was given, m + l - 1; 0 for none and unsettled */
-    size_t placements; /* that the walk took; the budget, for unsettled; 0 on a pair card */
+    size_t placements; /* that the walk took; the budget, for unsettled; 0 on a pair card, and always from belfrymist_settle */
 } belfrymist_build_answer;
 
 typedef struct {
@@ -169,6 +178,21 @@ belfrymist_write_answer belfrymist_write(size_t kind, size_t l, const uint32_t *
  * Refuses: the reader's refusals, then 12 where out has fewer than m + l - 1 bytes, whichever verdict would follow.
  * BELFRYMIST_MOST_SEQUENCE bytes are room for every card. */
 belfrymist_build_answer belfrymist_build(const uint8_t *card, size_t card_len, uint32_t budget, uint8_t *out, size_t out_len);
+
+/* Settles a span card whose spans are at most 4 wide. The card is admitted first. The verdict is sole, several or none, over all sequences as
+ * belfrymist_build has it, and never unsettled: there is no budget. Placements are 0. The time is at most in proportion to m, which is
+ * measured and not proved. Wherever belfrymist_build settles the card, verdict, length and letters are the same.
+ * Sole and several: the letters stand at the start of out, `length` of them, as ASCII capitals with no zero after them; later bytes are
+ * untouched. None: no byte of out is touched, and length is 0.
+ * Refuses: the reader's refusals; then 12 where out has fewer than m + l - 1 bytes, whichever verdict would follow; then 5 on a pair card; then
+ * 30 at the first entry whose span is over 4 wide. BELFRYMIST_MOST_SEQUENCE bytes are room for every card. */
+belfrymist_build_answer belfrymist_settle(const uint8_t *card, size_t card_len, uint8_t *out, size_t out_len);
+
+/* The same of the card of this kind and l whose entry i is words[i], ones[i], twos[i], as belfrymist_write takes them.
+ * Refuses, the first of these that holds: 5 where the kind is neither 1 nor 2; 6; 13; 7; each entry in turn, 10 before 11; 12; then 5 where the
+ * kind is pair; then 30. */
+belfrymist_build_answer belfrymist_settle_lists(size_t kind, size_t l, const uint32_t *words, size_t words_len, const uint16_t *ones,
+                                                size_t ones_len, const uint16_t *twos, size_t twos_len, uint8_t *out, size_t out_len);
 
 /* How many builds a pair card has: none, or a power of two, whose exponent is given (a full card may have more than a size_t holds). A build is
  * a sequence, so that two ways that only exchange equal words are one. belfrymist_build, with room for the sequence, says sole of such a card

@@ -1,8 +1,8 @@
 #!/usr/bin/env python3
 """Cards at the edges of each rule, with what the programs answer to them.
 
-edges.py FOLDER writes FOLDER/NAME.card for each, and FOLDER/answers.txt and FOLDER/counts.txt in the form of those beside this script. The
-answers are stated here, from the scope document and request 12; the cards are laid out by samples/make.py.
+edges.py FOLDER writes FOLDER/NAME.card for each, and FOLDER/answers.txt, FOLDER/settles.txt and FOLDER/counts.txt in the form of those beside
+this script. The answers are stated here, from the scope document and requests 11 and 12; the cards are laid out by samples/make.py.
 """
 import pathlib
 import sys
@@ -21,8 +21,13 @@ def head(form=1, kind=SPAN, l=2, spare=0, m=4, rest=b"", index=0):
 
 
 def homopolymer(m, l=2, kind=SPAN):
-    """A card of m words of A, each at its own place."""
+    """A card of m words of l As, each at its own place."""
     return card(kind, l, [("A" * l, i, i if kind == SPAN else 65535) for i in range(m)])
+
+
+def own_places(m):
+    """Entries of m words of A, each at its own place."""
+    return [("AA", i, i) for i in range(m)]
 
 
 def with_entry(place, entry, kind=SPAN):
@@ -84,33 +89,54 @@ REFUSED = {
     "place-m": (with_entry(2, ("AG", 0, 4)), 11, 2),
     "span-turned-round": (with_entry(1, ("CA", 3, 1)), 11, 1),
     "span-with-no-second": (with_entry(0, ("AC", 0, 65535)), 11, 0),
-    "nine-wide": (card(SPAN, 2, [("AA", 0, 8)] + [("AA", i, i) for i in range(1, 9)]), 11, 0),
+    "nine-wide": (card(SPAN, 2, [("AA", 0, 8)] + own_places(9)[1:]), 11, 0),
     "pair-of-one-place-twice": (with_entry(1, ("CA", 1, 1), PAIR), 11, 1),
     "pair-without-a-first": (with_entry(3, ("GA", 65535, 3), PAIR), 11, 3),
-    "last-entry-of-a-full-card": (card(SPAN, 2, [("AA", i, i) for i in range(503)] + [("AA", 503, 504)]), 11, 503),
-}
-
-# Span cards.
-BUILT = {
-    "l-12": (homopolymer(3, l=12), "CARD span 12 3", f"sole {'A' * 14} 3"),
-    "m-1": (homopolymer(1), "CARD span 2 1", "sole AA 1"),
-    "m-63": (homopolymer(63), "CARD span 2 63", f"sole {'A' * 64} 63"),
-    "m-64": (homopolymer(64), "CARD span 2 64", f"sole {'A' * 65} 64"),
-    "m-504": (FULL, "CARD span 2 504", f"sole {'A' * 505} 504"),
-    "eight-wide": (card(SPAN, 2, [("AA", 0, 7)] * 8), "CARD span 2 8", "sole AAAAAAAAA 8"),
-    "largest-word": (card(SPAN, 12, [("T" * 12, 0, 0)]), "CARD span 12 1", "sole TTTTTTTTTTTT 1"),
+    "last-entry-of-a-full-card": (card(SPAN, 2, own_places(503) + [("AA", 503, 504)]), 11, 503),
+    "five-wide-and-place-m": (card(SPAN, 2, [("AA", 0, 4)] + own_places(4)[1:] + [("AA", 4, 5)]), 11, 4),
 }
 
 
-def pairs_apart(m):
-    """A pair card of m words by fours, each four as P1 has them: a choice for every four."""
+def by_fours(kind, m):
+    """A card of m words by fours, each four as P1 or S1 has them: a choice for every four."""
     four = [("AC", 0), ("CA", 1), ("AG", 0), ("GA", 1)]
-    return card(PAIR, 2, [(word, 4 * i + at, 4 * i + at + 2) for i in range(m // 4) for word, at in four])
+    return card(kind, 2, [(word, 4 * i + at, 4 * i + at + 2) for i in range(m // 4) for word, at in four])
 
 
-# Name, card, both lines of `build`, and the line of `count_builds`.
+# Span cards at most 4 wide: name, card, both lines of `build` without the placements, and these; `settle` has 0 in their place.
+NARROW = {
+    "l-12": (homopolymer(3, l=12), "CARD span 12 3", f"sole {'A' * 14}", 3),
+    "m-1": (homopolymer(1), "CARD span 2 1", "sole AA", 1),
+    "m-63": (homopolymer(63), "CARD span 2 63", f"sole {'A' * 64}", 63),
+    "m-64": (homopolymer(64), "CARD span 2 64", f"sole {'A' * 65}", 64),
+    "m-504": (FULL, "CARD span 2 504", f"sole {'A' * 505}", 504),
+    "m-504-span-choices": (by_fours(SPAN, 504), "CARD span 2 504", f"several {'ACAG' * 126}A", 508),
+    "m-504-span-l-12": (homopolymer(504, l=12), "CARD span 12 504", f"sole {'A' * 515}", 504),
+    "largest-word": (card(SPAN, 12, [("T" * 12, 0, 0)]), "CARD span 12 1", "sole TTTTTTTTTTTT", 1),
+    "four-wide": (card(SPAN, 2, [("AA", 0, 3)] * 4), "CARD span 2 4", "sole AAAAA", 4),
+    "seven-over-a-place": (card(SPAN, 2, [("AA", 0, 3)] * 4 + [("AA", 3, 6)] * 3), "CARD span 2 7", "sole AAAAAAAA", 7),
+    # At place 6 two are left that end there.
+    "eight-over-a-place": (card(SPAN, 2, [("AA", 0, 3)] * 4 + [("AA", 3, 6)] * 4), "CARD span 2 8", "none", 6),
+}
+
+# Wider ones: name, card, both lines of `build`, and the first entry over 4 wide.
+WIDER = {
+    "five-wide": (card(SPAN, 2, [("AA", 0, 4)] * 5), "CARD span 2 5", "sole AAAAAA 5", 0),
+    "five-wide-at-the-end": (card(SPAN, 2, own_places(4) + [("AA", 0, 4)]), "CARD span 2 5", "sole AAAAAA 5", 4),
+    "eight-wide": (card(SPAN, 2, [("AA", 0, 7)] * 8), "CARD span 2 8", "sole AAAAAAAAA 8", 0),
+    "wider-entry-503": (card(SPAN, 2, own_places(503) + [("AA", 499, 503)]), "CARD span 2 504", f"sole {'A' * 505} 504", 503),
+    # Eight are over place 3, and there is no build; but the widths are tested first.
+    "eight-over-a-place-and-five-wide": (
+        card(SPAN, 2, [("AA", 0, 3)] * 4 + [("AA", 3, 6)] * 3 + [("AA", 2, 6)]),
+        "CARD span 2 8",
+        "none 6",
+        7,
+    ),
+}
+
+# Pair cards: name, card, both lines of `build`, and the line of `count_builds`.
 COUNTED = {
-    "m-504-choices": (pairs_apart(504), "CARD pair 2 504", f"several {'ACAG' * 126}A 0", "builds 2^126"),
+    "m-504-choices": (by_fours(PAIR, 504), "CARD pair 2 504", f"several {'ACAG' * 126}A 0", "builds 2^126"),
     "m-504-swaps": (
         card(PAIR, 2, [("AA", 2 * (i // 2), 2 * (i // 2) + 1) for i in range(504)]),
         "CARD pair 2 504",
@@ -124,20 +150,24 @@ COUNTED = {
 
 def main():
     folder = pathlib.Path(sys.argv[1])
-    answers, counts = [], []
+    answers, settles, counts = [], [], []
 
-    def answered(name, stored, answer, count):
+    def answered(name, stored, answer, settle, count):
         (folder / f"{name}.card").write_bytes(stored)
         answers.append(f"{name}|{answer}\n")
+        settles.append(f"{name}|{settle}\n")
         counts.append(f"{name}|{count}\n")
 
     for name, (stored, rule, place) in REFUSED.items():
-        answered(name, stored, f"refused {rule} {place}", f"refused {rule} {place}")
-    for name, (stored, first, second) in BUILT.items():
-        answered(name, stored, f"{first}|{second}", "refused 5 0")
+        answered(name, stored, *[f"refused {rule} {place}"] * 3)
+    for name, (stored, first, second, placements) in NARROW.items():
+        answered(name, stored, f"{first}|{second} {placements}", f"{first}|{second} 0", "refused 5 0")
+    for name, (stored, first, second, entry) in WIDER.items():
+        answered(name, stored, f"{first}|{second}", f"refused 30 {entry}", "refused 5 0")
     for name, (stored, first, second, count) in COUNTED.items():
-        answered(name, stored, f"{first}|{second}", count)
+        answered(name, stored, f"{first}|{second}", "refused 5 0", count)
     (folder / "answers.txt").write_text("".join(answers))
+    (folder / "settles.txt").write_text("".join(settles))
     (folder / "counts.txt").write_text("".join(counts))
 
 

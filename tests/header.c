@@ -1,5 +1,5 @@
-/* header FOLDER: calls every function of include/belfrymist.h through it, on the cards S1, P1, P4 and S5 of FOLDER, and looks at each
- * answer and at every byte of each output. What is expected is stated here, from the scope document and request 12. */
+/* header FOLDER: calls every function of include/belfrymist.h through it, on the cards S1, P1, P4, S5 and one-wider of FOLDER, and
+ * looks at each answer and at every byte of each output. What is expected is stated here, from the scope document and requests 11 and 12. */
 #include <stdio.h>
 #include <stdlib.h>
 #include <string.h>
@@ -143,6 +143,67 @@ static void building(const uint8_t *s1, const uint8_t *p1, const uint8_t *s5)
     WANT(memcmp(out, "ACAGA", 5) == 0 && untouched(out, 5, sizeof out));
 }
 
+static void settling(const uint8_t *s1, const uint8_t *p1, const uint8_t *s5, const uint8_t *wider)
+{
+    static const uint32_t words[] = {1, 4, 2, 8}, equal[] = {0, 0, 0, 0, 0}, letters[] = {0, 16};
+    static const uint16_t ones[] = {0, 1, 0, 1}, twos[] = {2, 3, 2, 3}, beyond[] = {2, 3, 2, 4}, zeros[] = {0, 0, 0, 0, 0},
+                          next[] = {1, 1}, fours[] = {4, 4, 3, 2, 1},
+                          later_four[] = {0, 3, 4, 4, 1};
+    uint8_t out[7 + GUARD];
+
+    memset(out, UNTOUCHED, sizeof out);
+    ANSWERS(belfrymist_build_answer, belfrymist_settle(s5, CARD, out, 3), 0, 0, BELFRYMIST_NONE, 0, 0);
+    ANSWERS(belfrymist_build_answer, belfrymist_settle(s1, CARD, out, 4), BELFRYMIST_REFUSED_ROOM, 0, 0, 0, 0);
+    ANSWERS(belfrymist_build_answer, belfrymist_settle(s1, CARD, NULL, 0), BELFRYMIST_REFUSED_ROOM, 0, 0, 0, 0);
+    ANSWERS(belfrymist_build_answer, belfrymist_settle(s1, CARD - 1, out, 4), BELFRYMIST_REFUSED_SIZE, 0, 0, 0, 0);
+    ANSWERS(belfrymist_build_answer, belfrymist_settle(NULL, 0, NULL, 0), BELFRYMIST_REFUSED_SHORT, 0, 0, 0, 0);
+    /* 12 comes before 5 and before 30. */
+    ANSWERS(belfrymist_build_answer, belfrymist_settle(p1, CARD, out, 5), BELFRYMIST_REFUSED_KIND, 0, 0, 0, 0);
+    ANSWERS(belfrymist_build_answer, belfrymist_settle(p1, CARD, out, 4), BELFRYMIST_REFUSED_ROOM, 0, 0, 0, 0);
+    ANSWERS(belfrymist_build_answer, belfrymist_settle(wider, CARD, out, 7), BELFRYMIST_REFUSED_WIDER, 3, 0, 0, 0);
+    ANSWERS(belfrymist_build_answer, belfrymist_settle(wider, CARD, out, 6), BELFRYMIST_REFUSED_ROOM, 0, 0, 0, 0);
+
+    ANSWERS(belfrymist_build_answer, belfrymist_settle_lists(BELFRYMIST_SPAN, 2, words, 4, ones, 4, twos, 4, out, 4), BELFRYMIST_REFUSED_ROOM,
+            0, 0, 0, 0);
+    ANSWERS(belfrymist_build_answer, belfrymist_settle_lists(BELFRYMIST_PAIR, 2, words, 4, ones, 4, twos, 4, out, 5), BELFRYMIST_REFUSED_KIND,
+            0, 0, 0, 0);
+    ANSWERS(belfrymist_build_answer, belfrymist_settle_lists(BELFRYMIST_PAIR, 2, words, 4, ones, 4, twos, 4, out, 4), BELFRYMIST_REFUSED_ROOM,
+            0, 0, 0, 0);
+    ANSWERS(belfrymist_build_answer, belfrymist_settle_lists(BELFRYMIST_SPAN, 2, equal, 5, zeros, 5, fours, 5, out, 6),
+            BELFRYMIST_REFUSED_WIDER, 0, 0, 0, 0);
+    ANSWERS(belfrymist_build_answer, belfrymist_settle_lists(BELFRYMIST_SPAN, 2, equal, 5, zeros, 5, later_four, 5, out, 6),
+            BELFRYMIST_REFUSED_WIDER, 2, 0, 0, 0);
+    ANSWERS(belfrymist_build_answer, belfrymist_settle_lists(BELFRYMIST_SPAN, 2, equal, 5, zeros, 5, fours, 5, out, 5),
+            BELFRYMIST_REFUSED_ROOM, 0, 0, 0, 0);
+    ANSWERS(belfrymist_build_answer, belfrymist_settle_lists(BELFRYMIST_SPAN, 2, words, 4, ones, 4, beyond, 4, out, 0),
+            BELFRYMIST_REFUSED_PLACES, 3, 0, 0, 0);
+    ANSWERS(belfrymist_build_answer, belfrymist_settle_lists(BELFRYMIST_SPAN, 2, letters, 2, zeros, 2, zeros, 2, out, 0),
+            BELFRYMIST_REFUSED_WORD, 1, 0, 0, 0);
+    ANSWERS(belfrymist_build_answer, belfrymist_settle_lists(3, 1, words, 4, ones, 4, twos, 3, NULL, 0), BELFRYMIST_REFUSED_KIND, 0, 0, 0, 0);
+    ANSWERS(belfrymist_build_answer, belfrymist_settle_lists(BELFRYMIST_SPAN, 1, words, 4, ones, 4, twos, 3, NULL, 0),
+            BELFRYMIST_REFUSED_WORD_LENGTH, 0, 0, 0, 0);
+    ANSWERS(belfrymist_build_answer, belfrymist_settle_lists(BELFRYMIST_SPAN, 2, words, 4, ones, 4, twos, 3, NULL, 0), BELFRYMIST_REFUSED_LISTS,
+            0, 0, 0, 0);
+    ANSWERS(belfrymist_build_answer, belfrymist_settle_lists(BELFRYMIST_SPAN, 2, NULL, 0, NULL, 0, NULL, 0, NULL, 0), BELFRYMIST_REFUSED_COUNT,
+            0, 0, 0, 0);
+    /* AC and CA, both at 0 alone. */
+    ANSWERS(belfrymist_build_answer, belfrymist_settle_lists(BELFRYMIST_SPAN, 2, words, 2, zeros, 2, zeros, 2, out, 3), 0, 0, BELFRYMIST_NONE,
+            0, 0);
+    WANT(untouched(out, 0, sizeof out));
+
+    ANSWERS(belfrymist_build_answer, belfrymist_settle(s1, CARD, out, 5), 0, 0, BELFRYMIST_SEVERAL, 5, 0);
+    WANT(memcmp(out, "ACAGA", 5) == 0 && untouched(out, 5, sizeof out));
+    memset(out, UNTOUCHED, sizeof out);
+    ANSWERS(belfrymist_build_answer, belfrymist_settle_lists(BELFRYMIST_SPAN, 2, words, 4, ones, 4, twos, 4, out, sizeof out), 0, 0,
+            BELFRYMIST_SEVERAL, 5, 0);
+    WANT(memcmp(out, "ACAGA", 5) == 0 && untouched(out, 5, sizeof out));
+    /* AA twice, each at 0 or 1: two ways with one sequence. */
+    memset(out, UNTOUCHED, sizeof out);
+    ANSWERS(belfrymist_build_answer, belfrymist_settle_lists(BELFRYMIST_SPAN, 2, equal, 2, zeros, 2, next, 2, out, 3), 0, 0, BELFRYMIST_SOLE, 3,
+            0);
+    WANT(memcmp(out, "AAA", 3) == 0 && untouched(out, 3, sizeof out));
+}
+
 static void counting(const uint8_t *s1, const uint8_t *p1, const uint8_t *p4)
 {
     static const uint32_t words[] = {1, 4, 2, 8}, equal[] = {0, 0};
@@ -171,7 +232,7 @@ static void counting(const uint8_t *s1, const uint8_t *p1, const uint8_t *p4)
 
 int main(int count, char **arguments)
 {
-    uint8_t s1[CARD], p1[CARD], p4[CARD], s5[CARD], s1_before[CARD];
+    uint8_t s1[CARD], p1[CARD], p4[CARD], s5[CARD], wider[CARD], s1_before[CARD];
 
     if (count != 2)
         return 2;
@@ -179,11 +240,13 @@ int main(int count, char **arguments)
     read_card(arguments[1], "p1", p1);
     read_card(arguments[1], "p4", p4);
     read_card(arguments[1], "s5", s5);
+    read_card(arguments[1], "one-wider", wider);
     memcpy(s1_before, s1, CARD);
     reading(s1);
     blocks(s1);
     writing(s1);
     building(s1, p1, s5);
+    settling(s1, p1, s5, wider);
     counting(s1, p1, p4);
     WANT(memcmp(s1, s1_before, CARD) == 0);
     printf("header: %d asked, %d wrong\n", asked, wrong);

@@ -52,6 +52,8 @@ static void companion(void) { seen = belfrymist_companion(card, length, 1).numbe
 static void fetch(void) { seen = belfrymist_fetch(card, length, 1).length; }
 static void written(void) { seen = belfrymist_write(kind, l, words, m, ones, m, twos, m, out, sizeof out).length; }
 static void build(void) { seen = belfrymist_build(card, length, 1000000, out, sizeof out).verdict; }
+static void settle_card(void) { seen = belfrymist_settle(card, length, out, sizeof out).verdict; }
+static void settle_lists(void) { seen = belfrymist_settle_lists(kind, l, words, m, ones, m, twos, m, out, sizeof out).verdict; }
 static void count_card(void) { seen = belfrymist_count(card, length).any; }
 static void count_lists(void) { seen = belfrymist_count_lists(kind, l, words, m, ones, m, twos, m).any; }
 
@@ -71,7 +73,7 @@ static void take_up(void)
     }
 }
 
-static size_t most_reading, most_building, most_counting;
+static size_t most_reading, most_building, most_settling, most_counting;
 
 /* The most that any of the calls takes, or what was the most before. */
 static size_t most_of(size_t most, void (*const *calls)(void), size_t count)
@@ -86,12 +88,14 @@ static size_t most_of(size_t most, void (*const *calls)(void), size_t count)
 
 static void measure(void)
 {
-    static void (*const building[])(void) = {build}, (*const counting[])(void) = {count_card, count_lists};
+    static void (*const building[])(void) = {build}, (*const settling[])(void) = {settle_card, settle_lists};
+    static void (*const counting[])(void) = {count_card, count_lists};
     static void (*const reading[])(void) = {admit, entry, step, companion, fetch, written};
     most_building = most_of(most_building, building, 1);
     take_up();
     if (m == 0)
         return;
+    most_settling = most_of(most_settling, settling, 2);
     most_counting = most_of(most_counting, counting, 2);
     most_reading = most_of(most_reading, reading, sizeof reading / sizeof *reading);
 }
@@ -124,6 +128,18 @@ static void full_span_card(uint16_t end_of_first)
     length = belfrymist_write(BELFRYMIST_SPAN, 2, words, e, ones, e, twos, e, card, sizeof card).length;
 }
 
+/* A full span card at most 4 wide: the words of A and C by turns, each at its own place or up to three places before it. */
+static void full_narrow_card(void)
+{
+    size_t e;
+    for (e = 0; e < BELFRYMIST_MOST_ENTRIES; e++) {
+        words[e] = e % 2 == 0 ? 1 : 4;
+        ones[e] = (uint16_t)(e < 3 ? 0 : e - 3);
+        twos[e] = (uint16_t)e;
+    }
+    length = belfrymist_write(BELFRYMIST_SPAN, 2, words, e, ones, e, twos, e, card, sizeof card).length;
+}
+
 static size_t placements(void) { return belfrymist_build(card, length, 1000000, out, sizeof out).placements; }
 
 /* Takes up the card on which the walk has made 512 placements in vain before it goes down, so that it keeps states in memory at every depth. */
@@ -149,10 +165,14 @@ int main(int count, char **names)
     }
     full_pair_card();
     measure();
+    full_narrow_card();
+    measure();
     if (!take_up_remembered())
         return 3;
     measure();
-    printf("stack: at most %zu bytes to build, %zu to count and %zu for other calls; the header says %d, %d and %d\n", most_building,
-           most_counting, most_reading, BELFRYMIST_STACK, BELFRYMIST_STACK_COUNTING, BELFRYMIST_STACK_READING);
-    return !(most_building <= BELFRYMIST_STACK && most_counting <= BELFRYMIST_STACK_COUNTING && most_reading <= BELFRYMIST_STACK_READING);
+    printf("stack: at most %zu bytes to build, %zu to settle, %zu to count and %zu for other calls; the header says %d, %d, %d and %d\n",
+           most_building, most_settling, most_counting, most_reading, BELFRYMIST_STACK, BELFRYMIST_STACK_SETTLING, BELFRYMIST_STACK_COUNTING,
+           BELFRYMIST_STACK_READING);
+    return !(most_building <= BELFRYMIST_STACK && most_settling <= BELFRYMIST_STACK_SETTLING && most_counting <= BELFRYMIST_STACK_COUNTING &&
+             most_reading <= BELFRYMIST_STACK_READING);
 }

@@ -17,7 +17,7 @@ Index = 3
 abbrev pub Form : ℕ
 Form = 4
 
--- "kind not 1 or 2"
+-- "kind not 1 or 2"; request 11: "a pair card"; request 12: "on a span card"
 abbrev pub Kind : ℕ
 Kind = 5
 

@@ -28,7 +28,7 @@ pub enum BuildAnswer {
 }
 
 // The answer by what the method comes to; the letters of the words that it found stand in the output, where it gives a build.
-fn spelled(r: Walked, l: usize, words: &[u32], out: &mut [u8]) -> BuildAnswer
+pub fn spelled(r: Walked, l: usize, words: &[u32], out: &mut [u8]) -> BuildAnswer
     requires { ⌜ Spells l (now words) ⌝ }
     requires { ⌜ length (now out) + 1 ≡ length (now words) + l ⌝ }
     ensures { λ a. ⌜ a ≡ answerOf (given (saysWalked l (now (words .entry)) r)) ⌝ }

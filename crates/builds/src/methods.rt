@@ -15,7 +15,7 @@ use pairing::Paired;
 use walk::Walked;
 
 // The slots of the lists of all places together: each entry may stand at so many places.
-const SLOTS: usize = entries::WIDEST as usize * MOST;
+pub const SLOTS: usize = entries::WIDEST as usize * MOST;
 
 // The walk over the lists of a span card.
 fn walk_spans(

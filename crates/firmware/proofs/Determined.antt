@@ -6,6 +6,7 @@ use denote.Ref.{now}
 use denote.Triple.Clauses.{AtExit}
 use borrow.Fn.Kinds.{Dens, resT, endedOf}
 use Rattle.builds.proofs.Determined.{told-one}
+use Rattle.narrow.proofs.SettlingLaws.{settles-one}
 use Rattle.counting.proofs.CountingLaws.{counts-one}
 use Rattle.firmware.specs.Building.{buildAnswer}
 use Rattle.firmware.proofs.belfrymist_admit.Kinds as admit
@@ -22,6 +23,10 @@ use Rattle.firmware.proofs.writing.belfrymist_write.Kinds as write
 use Rattle.firmware.proofs.writing.belfrymist_write.Reads as write-reads
 use Rattle.firmware.proofs.building.belfrymist_build.Kinds as build
 use Rattle.firmware.proofs.building.belfrymist_build.Reads as build-reads
+use Rattle.firmware.proofs.settle.belfrymist_settle.Kinds as settle
+use Rattle.firmware.proofs.settle.belfrymist_settle.Reads as settle-reads
+use Rattle.firmware.proofs.settle.belfrymist_settle_lists.Kinds as settle-lists
+use Rattle.firmware.proofs.settle.belfrymist_settle_lists.Reads as settle-lists-reads
 use Rattle.firmware.proofs.count.belfrymist_count.Kinds as count
 use Rattle.firmware.proofs.count.belfrymist_count.Reads as count-reads
 use Rattle.firmware.proofs.count.belfrymist_count_lists.Kinds as count-lists
@@ -62,6 +67,18 @@ write-one κs a r r′ e e′ p q = (p .0 ∙ sym (q .0), p .1 ∙ sym (q .1))
 pub build-one : (κs : Lfts 2) (a : Dens κs build.ps) (r r′ : resT build.r κs .Denot) (e e′ : AtExit (endedOf 2 build.ps build.r) κs)
     → build-reads.Post κs a r e → build-reads.Post κs a r′ e′ → (r ≡ r′) × (now (e .1 .1 .0) ≡ now (e′ .1 .1 .0))
 build-one κs a r r′ e e′ p q = told-one buildAnswer (now (a .1 .1 .0)) (p .says) (q .says) (p .answer) (q .answer) (p .output) (q .output)
+
+-- what settling a card answers, and lists, and the output afterwards
+pub settle-one : (κs : Lfts 2) (a : Dens κs settle.ps) (r r′ : resT settle.r κs .Denot) (e e′ : AtExit (endedOf 2 settle.ps settle.r) κs)
+    → settle-reads.Post κs a r e → settle-reads.Post κs a r′ e′ → (r ≡ r′) × (now (e .1 .0) ≡ now (e′ .1 .0))
+settle-one κs a r r′ e e′ p q = settles-one p q
+
+pub settle-lists-one : (κs : Lfts 4) (a : Dens κs settle-lists.ps) (r r′ : resT settle-lists.r κs .Denot)
+    (e e′ : AtExit (endedOf 4 settle-lists.ps settle-lists.r) κs)
+    → settle-lists-reads.Post κs a r e
+    → settle-lists-reads.Post κs a r′ e′
+    → (r ≡ r′) × (now (e .1 .1 .1 .1 .1 .0) ≡ now (e′ .1 .1 .1 .1 .1 .0))
+settle-lists-one κs a r r′ e e′ p q = settles-one p q
 
 -- the number of builds of a card, and of lists
 pub count-one : (κs : Lfts 1) (a : Dens κs count.ps) (r r′ : resT count.r κs .Denot) (e e′ : AtExit (endedOf 1 count.ps count.r) κs)

@@ -12,6 +12,8 @@ use Rattle.sequence.specs.Many.{Power}
 use Rattle.sequence.specs.Verdict.{sole, several, noBuild, Outcome, settled, unsettled}
 use Rattle.builds.specs.Building.{answerOf, Builds}
 use Rattle.builds.specs.declared.BuildAnswer as builds
+use Rattle.narrow.specs.Settling.{Settles}
+use Rattle.narrow.proofs.SettlingLaws.{settles-as}
 use Rattle.counting.specs.declared.Number.{Number}
 use Rattle.counting.specs.Counting.{numberOf, Counts}
 use Rattle.counting.proofs.CountingLaws.{counts-as}
@@ -100,6 +102,15 @@ build-flat b e = record {
   answer = e ∙ ap flatOf (b .answer) ∙ flat-same (b .said);
   output = b .output;
 }
+
+-- ---- settling
+
+-- the struct of what settling answers
+pub settle-flat : {Says : Answer Outcome → Type 0} {before after : List ℕ} {r : builds.BuildAnswer} {result : BuildAnswer}
+    → Settles answerOf Says before r after
+    → result ≡ flatOf r
+    → Settles buildAnswer Says before result after
+settle-flat c e = settles-as flatOf flat-same c e
 
 -- ---- the number of builds
 

@@ -11,6 +11,7 @@ use Rattle.answers.proofs.Numbered.{Numbered, none, also, numbered-append, numb
 use Rattle.block.specs.Block.{fetchTests}
 use Rattle.block.proofs.Laws.{fetch-numbered}
 use Rattle.entries.specs.declared.Slot.{Slot}
+use Rattle.entries.specs.Slot.{entriesIn}
 use Rattle.layout.specs.Layout.{toldBy}
 use Rattle.card.specs.Reading.{readingOrder}
 use Rattle.card.specs.Fetching.{admission, entryFetch, stepping}
@@ -21,7 +22,10 @@ use Rattle.writer.specs.Writing.{writing}
 use Rattle.writer.proofs.RefusalNumbers.{writing-number}
 use Rattle.sequence.specs.Many.{Power, two-to, no-build}
 use Rattle.sequence.specs.Verdict.{sole, several, noBuild, Outcome, settled, unsettled}
-use Rattle.builds.specs.Building.{buildTests, Says, tells, refuses}
+use Rattle.builds.specs.Building.{buildTests, slotsOn, Says, tells, refuses}
+use Rattle.narrow.specs.Settling.{listsBuildTests, settleTests, Settled, Settles}
+use Rattle.narrow.specs.Settling as settling
+use Rattle.narrow.proofs.TestLaws as narrow
 use Rattle.counting.specs.Counting.{countTests, Counted, OfCard, OfLists, Counts}
 use Rattle.counting.specs.Counting as counting
 use Rattle.counting.proofs.CountingLaws.{tests-numbered}
@@ -56,6 +60,12 @@ build-numbered : (limit : ℕ) (card : List ℕ) (room : ℕ) → Numbered (buil
 unfolding buildTests
 build-numbered limit card room = numbered-append (order-numbered limit card) (also {n = Room} (omega arith) none)
 
+zero-given : (o : Outcome) → buildAnswer (given o) .number ≡ 0
+zero-given (settled (sole s) n) = refl
+zero-given (settled (several s) n) = refl
+zero-given (settled noBuild n) = refl
+zero-given (unsettled n) = refl
+
 module _ {limit budget : ℕ} {card before after : List ℕ} {result : BuildAnswer} (w : Told limit card budget before result after) where
   pub build-tells : {n p : ℕ} → first (buildTests limit card (length before)) sound ≡ refused n p → 0 < result .number
   build-tells e = rw (w .answer) (go (w .says))
@@ -67,15 +77,52 @@ module _ {limit budget : ℕ} {card before after : List ℕ} {result : BuildAnsw
   pub build-zero : first (buildTests limit card (length before)) sound ≡ given sound → result .number ≡ 0
   build-zero e = rw (w .answer) (go (w .says))
     where
-      zero-in : (o : Outcome) → buildAnswer (given o) .number ≡ 0
-      zero-in (settled (sole s) n) = refl
-      zero-in (settled (several s) n) = refl
-      zero-in (settled noBuild n) = refl
-      zero-in (unsettled n) = refl
-
       go : {a : Answer Outcome} → Says limit card budget (length before) a → buildAnswer a .number ≡ 0
-      go (tells {o} hold _) = zero-in o
+      go (tells {o} hold _) = zero-given o
       go (refuses fails) = absurd (given-not-refused (sym e ∙ fails))
+
+-- ---- settling, of a card and of lists
+
+module _ {ts : List Test} {kind l : ℕ} {es : List Slot} {before after : List ℕ} {result : BuildAnswer}
+    (c : Settles buildAnswer (Settled ts kind l es) before result after) where
+  settle-tells : Numbered ts → {n p : ℕ} → first (settleTests kind es ts) sound ≡ refused n p → 0 < result .number
+  settle-tells numbered e = rw (c .answer) (go (c .says))
+    where
+      go : {a : Answer Outcome} → Settled ts kind l es a → 0 < buildAnswer a .number
+      go (settling.tells hold _) = absurd (given-not-refused (sym hold ∙ e))
+      go (settling.refuses fails) = numbered-refused (narrow.tests-numbered kind es ts numbered) sound fails
+
+  settle-zero : first (settleTests kind es ts) sound ≡ given sound → result .number ≡ 0
+  settle-zero e = rw (c .answer) (go (c .says))
+    where
+      go : {a : Answer Outcome} → Settled ts kind l es a → buildAnswer a .number ≡ 0
+      go (settling.tells {o} hold _) = zero-given o
+      go (settling.refuses fails) = absurd (given-not-refused (sym e ∙ fails))
+
+module _ (limit : ℕ) (card before : List ℕ) {after : List ℕ} {result : BuildAnswer}
+    (c : Settles buildAnswer (settling.OfCard limit card (length before)) before result after) where
+  pub settle-card-tells : {n p : ℕ}
+      → first (settleTests (toldBy card .kind) (slotsOn card) (buildTests limit card (length before))) sound ≡ refused n p
+      → 0 < result .number
+  settle-card-tells = settle-tells c (build-numbered limit card (length before))
+
+  pub settle-card-zero : first (settleTests (toldBy card .kind) (slotsOn card) (buildTests limit card (length before))) sound ≡ given sound
+      → result .number ≡ 0
+  settle-card-zero = settle-zero c
+
+module _ (limit kind l : ℕ) (words ones twos before : List ℕ) {after : List ℕ} {result : BuildAnswer}
+    (c : Settles buildAnswer (settling.OfLists limit kind l words ones twos (length before)) before result after) where
+  pub settle-lists-tells : {n p : ℕ}
+      → first (settleTests kind (entriesIn words ones twos) (listsBuildTests limit kind l words ones twos (length before))) sound
+      ≡ refused n p
+      → 0 < result .number
+  settle-lists-tells = settle-tells c (narrow.lists-build-numbered limit kind l words ones twos (length before))
+
+  pub settle-lists-zero :
+      first (settleTests kind (entriesIn words ones twos) (listsBuildTests limit kind l words ones twos (length before))) sound
+      ≡ given sound
+      → result .number ≡ 0
+  settle-lists-zero = settle-zero c
 
 -- ---- the number of builds, of a card and of lists
 

@@ -1,4 +1,4 @@
--- What build answers as a struct of numbers, for C.
+-- What build answers as a struct of numbers, for C; settling answers with the same struct.
 --   buildAnswer a      == the struct of what is said: the verdict as 1 for sole, 2 for several, 3 for none and 4 for unsettled, the length of
 --                         the sequence, or 0 where none is given, and the placements; or the refusal
 --   Told limit card budget before result after

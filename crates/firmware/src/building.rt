@@ -12,7 +12,7 @@ const NONE: usize = 3;
 
 const UNSETTLED: usize = 4;
 
-// What build answers. The number is 0 where nothing is refused, with the verdict, the length of the sequence, which is 0 where none is
+// What build answers, and settling. The number is 0 where nothing is refused, with the verdict, the length of the sequence, which is 0 where none is
 // given, and the placements; else it is the refusal's, with its place, and the rest is 0.
 #[repr(C)]
 pub struct BuildAnswer {
@@ -36,8 +36,8 @@ fn told(verdict: usize, length: usize, placements: u32) -> BuildAnswer
     }
 }
 
-// What build answers, as numbers.
-fn flat(a: builds::BuildAnswer) -> BuildAnswer
+// What build or settling answers, as numbers.
+pub fn flat(a: builds::BuildAnswer) -> BuildAnswer
     ensures { λ r. ⌜ r ≡ flatOf a ⌝ }
 {
     match a {

@@ -1,8 +1,8 @@
 -- Laws of choosing: the loop looks at the list from its end, and takes the digits of the cell apart from theirs. Assumes nothing.
 use mathlib.Core.Path.{_≡_, refl, sym, ap, _∙_}
 use mathlib.Core.Bool.{Bool, true, false, cond, _&&_}
-use mathlib.Core.List.{List, [], _∷_}
-use Prim.Native.Nat.{ℕ, suc, _+_, _-_, _/_, _%_, _^_, _≤_, _<_}
+use mathlib.Core.List.{List, _∷_}
+use Prim.Native.Nat.{ℕ, suc, _-_, _/_, _%_, _^_, _≤_, _<_}
 use native.Mathlib.Omega.{arith}
 use native.Mathlib.Nat.{pow-suc, pow-zero, div-one, div-div-eq-div-mul}
 use lib.Dec.{eqb, ltb}
@@ -18,7 +18,7 @@ use Rattle.layering.specs.Choosing.{Chooses, nobody, somebody}
 
 -- whether somebody is chosen
 pub chosen-some : {list ks : List ℕ} {at : ℕ} {more : Bool} → Chooses list ks at more → ltb at (length list) ≡ isSome ks
-chosen-some {list} {at} (nobody e f) = rw (f, le-ltb at (length list) (omega arith))
+chosen-some {list} {at} (nobody e f g) = rw (f, le-ltb at (length list) (omega arith))
 chosen-some {list} {at} (somebody h f m) = rw (f, lt-ltb at (length list) h)
 
 module _ (list words : List ℕ) (c i want : ℕ) where
@@ -40,7 +40,7 @@ module _ (list words : List ℕ) (c i want : ℕ) where
   looked-none = record {
     within = omega arith;
     rest = let none : length list - length list ≡ 0 = omega arith in sym (ap (λ n. c / 2 ^ n) none ∙ ap (λ n. c / n) (pow-zero 2) ∙ div-one c);
-    found = nobody refl (ap (λ l. agreeing words i want (picked c l)) (drop-length list));
+    found = nobody refl (ap (λ l. agreeing words i want (picked c l)) (drop-length list)) refl;
   }
 
   module _ {k d at : ℕ} {more : Bool} (s : Looked k d at more) (some : 0 < k) where

@@ -24,7 +24,7 @@ use Rattle.layers.proofs.Paths.{paths-table}
 use Rattle.memory.specs.Memory.{bitsOf}
 use Rattle.memory.proofs.KeyLaws.{bits-same}
 use Rattle.tables.specs.Prepared.{listAt}
-use Rattle.walk.specs.Steps.{noWord, isLeft, spanAt, left, agrees, able, isDue, opened, tries}
+use Rattle.walk.specs.Steps.{noWord, isLeft, spanAt, left, agrees, able, tries}
 use Rattle.walk.specs.Going.{Wants}
 use Rattle.walk.proofs.KeepLaws.{never}
 use Rattle.walk.proofs.SpanLaws.{spans-rise, words-below}
@@ -33,7 +33,7 @@ use Rattle.walk.proofs.Candidates.{Place, Alone, candidates, opened-alone}
 use Rattle.walk.proofs.RunLaws.{tries-in, tries-firsts, left-set, left-marked}
 use Rattle.walk.proofs.Turns.{rising-each, sooner-is}
 use Rattle.layering.specs.Digits.{picked, told}
-use Rattle.layering.specs.States.{Laid, Sides, duesIn, canStand, triedAt, after, below, agreeing, Chance, Chances}
+use Rattle.layering.specs.States.{Laid, Sides, duesIn, canStand, triedAt, after, below, agreeing, Chances}
 use Rattle.layering.proofs.DigitLaws.{told-picked}
 use Rattle.layering.proofs.TriedLaws.{tries-then, open-stand}
 

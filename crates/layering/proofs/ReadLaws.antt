@@ -1,7 +1,7 @@
 -- Laws of reading the first build off the table: what is completed from the first place on is what was read so far and whatever is completed
 -- from there, and then the rest. Assumes nothing.
 use mathlib.Core.Path.{_≡_, refl, sym, ap, ap₂, _∙_}
-use mathlib.Core.Bool.{Bool, true, false, _||_, true≢false}
+use mathlib.Core.Bool.{Bool, true, false, _||_}
 use mathlib.Core.List.{List, [], _∷_, _++_, map, flatMap, append-assoc, append-nil}
 use mathlib.Core.Option.{Option, none, some}
 use Prim.Native.Nat.{ℕ, _+_, _-_, _*_, _%_, _^_, _≤_, _<_}
@@ -9,7 +9,6 @@ use native.Mathlib.Omega.{arith}
 use native.Mathlib.Numerals.{add-one}
 use lib.ListN.{length, getD, set, take, drop, length-set}
 use lib.Seq.{take-suc-set, take-all, getD-take, getD-drop}
-use lib.Dec.{ltb}
 use borrow.Author.Tests.{ltb-true}
 use Rattle.sequence.specs.Lists.{In, first, later}
 use Rattle.sequence.proofs.ListLaws.{in-keep}
@@ -21,13 +20,11 @@ use Rattle.walk.specs.Steps.{left, agrees}
 use Rattle.walk.specs.Going.{Wants, at-first, later-on}
 use Rattle.walk.proofs.PlaceLaws.{list-lent, list-below}
 use Rattle.layering.specs.Digits.{picked}
-use Rattle.layering.specs.States.{cellsOver, Laid, Sides, cellOf, after, below, agreeing, Chance, Chances, isKept}
+use Rattle.layering.specs.States.{cellsOver, Sides, cellOf, after, below, agreeing, Chances, isKept}
 use Rattle.layering.specs.Choosing.{Chooses, nobody, somebody}
-use Rattle.layering.specs.Stepping.{Told, Completes}
-use Rattle.layering.specs.Sweeping.{Half}
 use Rattle.layering.specs.Reading.{Taking, Took, Readable, WasRead}
-use Rattle.layering.proofs.PlaceLaws.{tried-next, tried-here}
-use Rattle.layering.proofs.StateLaws.{list-long, some-map, some-append, some-flat, chance-leads, cell-completes}
+use Rattle.layering.proofs.PlaceLaws.{tried-next}
+use Rattle.layering.proofs.StateLaws.{list-long, some-map, some-flat, chance-leads, cell-completes}
 use Rattle.layering.proofs.SideLaws.{sides-first, sides-all}
 use Rattle.layering.proofs.SweepLaws.{half-told, begun-kept}
 
@@ -46,7 +43,7 @@ module _ {l : ℕ} {words ones twos starts slots marks table : List ℕ} {i want
   taken-there =
       ltb-true at (hi - lo) (cell-completes table (t .laid) (t .inside) lo-is hi-is (t .told) is chosen .each (t .word-before) (t .wants) ∙ t .some)
 
-  pub taken-entry : getD list at 0 ≡ getD slots (lo + at) 0
+  taken-entry : getD list at 0 ≡ getD slots (lo + at) 0
   taken-entry = getD-take (hi - lo) (drop lo slots) at 0 taken-there ∙ getD-drop lo slots at 0
 
   -- it is one of the card's
@@ -75,7 +72,7 @@ module _ {l : ℕ} {words ones twos starts slots marks table : List ℕ} {i want
       ks = agreeing words i want (picked (getD table cell 0) list)
 
       go : Chooses list ks at more → Took l words ones twos starts slots marks (set marks e 1) i want e more
-      go (nobody n f) = absurd (omega (arith, taken-there, list-long (t .laid) (t .inside) lo-is hi-is))
+      go (nobody n f g) = absurd (omega (arith, taken-there, list-long (t .laid) (t .inside) lo-is hi-is))
       go (somebody {js} h f m) =
           let own : ks ≡ e ∷ js = f ∙ ap (λ x. x ∷ js) (taken-entry ∙ sym q) in
           let as-listed : agreeing words i want (picked (getD table cell 0) (listAt starts slots i)) ≡ e ∷ js = rw (← lent) own in

@@ -1,17 +1,16 @@
--- The whole: where every state is kept and every entry is left, what is read off is the verdict by all builds; and a card with a crowded
+-- The whole: where the first state is kept and every entry is left, what is read off is the verdict by all builds; and a card with a crowded
 -- place has none. Assumes nothing.
 use mathlib.Core.Path.{_≡_, refl, sym, ap, _∙_}
 use mathlib.Core.Logic.{⊎-elim}
 use mathlib.Core.Bool.{Bool, true, false, cond, true≢false}
 use mathlib.Core.List.{List, [], _∷_, _++_, map}
 use mathlib.Core.Option.{none}
-use Prim.Native.Nat.{ℕ, suc, _+_, _-_, _*_, _≤_, _<_}
+use Prim.Native.Nat.{ℕ, suc, _+_, _-_, _≤_, _<_}
 use native.Mathlib.Omega.{arith}
 use native.Mathlib.Numerals.{add-one}
-use lib.ListN.{length, getD, set, take}
+use lib.ListN.{length, getD, take}
 use lib.Seq.{length-slice, take-at}
 use lib.Dec.{leb, le→leb}
-use borrow.Author.Tests.{ne-eqb}
 use Rattle.answers.proofs.RowLaws.{length-row}
 use Rattle.entries.specs.declared.Slot.{Slot}
 use Rattle.entries.specs.Slot.{slotFrom, entriesIn}
@@ -21,7 +20,7 @@ use Rattle.sequence.specs.Verdict.{several, Tells}
 use Rattle.sequence.proofs.TestLaws.{both-and}
 use Rattle.sequence.proofs.FillingLaws.{same-or-not}
 use Rattle.sequence.proofs.ListLaws.{keep-in, rising-shorter}
-use Rattle.spans.specs.Settling.{Entered, spanEntries, verdictOn}
+use Rattle.spans.specs.Settling.{spanEntries, verdictOn}
 use Rattle.spans.proofs.Builds.{builds-sound, complete-worded}
 use Rattle.spans.proofs.Indices.{in-numbers}
 use Rattle.layers.specs.Narrow.{isOver, Narrow, crowd, mostOver}
@@ -29,22 +28,20 @@ use Rattle.layers.specs.Settling.{settles}
 use Rattle.layers.specs.Completed.{paths, isSome}
 use Rattle.layers.proofs.Paths.{builds-paths, paths-tell}
 use Rattle.layers.proofs.Crowded.{crowded-none}
-use Rattle.tables.specs.Spans.{Spans}
 use Rattle.tables.specs.Prepared.{Prepared, listAt}
-use Rattle.walk.specs.Steps.{isLeft, spanAt, left, Unmarked}
+use Rattle.walk.specs.Steps.{spanAt, left}
 use Rattle.walk.specs.Going.{at-first}
 use Rattle.walk.specs.declared.Walked.{Walked}
 use Rattle.walk.specs.declared.Walked.the-variants.{Sole, Several, None}
 use Rattle.walk.proofs.Candidates.{sooner-apart}
 use Rattle.walk.proofs.WholeLaws.{left-all, entered, numbers-row}
-use Rattle.layering.specs.States.{cellsOver, Laid, Sides, cellOf}
+use Rattle.layering.specs.States.{Laid, Sides}
 use Rattle.layering.specs.Stepping.{Known, Completes}
-use Rattle.layering.specs.Sweeping.{Marked, Half}
+use Rattle.layering.specs.Sweeping.{Half}
 use Rattle.layering.specs.Reading.{Readable, WasRead}
 use Rattle.layering.specs.Settled.{Settles, Uncrowded, Crowding}
-use Rattle.layering.proofs.PlaceLaws.{tried-next}
 use Rattle.layering.proofs.SideLaws.{sides-first, sides-all}
-use Rattle.layering.proofs.SweepLaws.{cell-low, half-told, begun-kept}
+use Rattle.layering.proofs.SweepLaws.{half-told, begun-kept}
 
 -- ---- a crowded place
 
@@ -107,21 +104,6 @@ uncrowded-more {starts} {i} n e f g = record { few = λ j h. ⊎-elim (here j) (
 
 pub crowding-none : {starts : List ℕ} {m i : ℕ} → Uncrowded starts i → m ≤ i → Crowding starts m false
 crowding-none n h = record { some-place = λ q. absurd (true≢false (sym q)); no-place = λ q. record { few = λ j g. n .few j (omega arith) } }
-
--- ---- every state is kept
-
-module _ {l : ℕ} {words ones twos starts slots table table′ : List ℕ} (laid : Laid l words ones twos starts slots)
-    (room : cellsOver * length words ≤ length table) (marked : Marked table table′) where
-  pub all-kept : Half l words ones twos starts slots table′ (length words) 0
-  all-kept = record {
-    keeps = table′;
-    closed = record { next = λ marks i j h sides kept m. rw (marked .each (cellOf starts slots (set marks j 1) (i + 1)) (omega (arith, cell-low laid (set marks j 1) (i + 1) h))) };
-    begun = λ e. omega (arith, marked .each 0 (omega (arith, laid .card .some-entry)));
-    room = omega (arith, marked .all);
-    same = λ k h. refl;
-    exact = record { each = λ marks i from inside sides kept. absurd (omega arith) };
-    here = λ marks inside sides kept b. absurd (omega arith);
-  }
 
 -- ---- what is read off
 

@@ -1,55 +1,28 @@
 -- Laws of the marks around a place: what spreading a number over its list leaves of them, and where a sweep begins and ends. Assumes nothing.
 use mathlib.Core.Path.{_≡_, refl, sym, ap, _∙_}
 use mathlib.Core.Logic.{_⊎_, inl, inr, ⊎-elim}
-use mathlib.Core.Bool.{Bool, true, false, cond}
-use mathlib.Core.List.{List, [], _∷_, foldl}
+use mathlib.Core.Bool.{Bool, true, false}
+use mathlib.Core.List.{List, [], _∷_}
 use Prim.Native.Nat.{ℕ, _+_, _-_, _^_, _≤_, _<_}
 use native.Mathlib.Omega.{arith}
-use lib.ListN.{length, getD, set, take, drop}
+use lib.ListN.{length, getD, take, drop}
 use lib.Dec.{eqb, leb}
 use borrow.Author.Tests.{eqb-true, eq-eqb, leb-true, leb-false}
-use Rattle.sequence.specs.Lists.{In, first, later, Rising, flat, rises}
-use Rattle.sequence.proofs.ListLaws.{not-in-nil, in-cons}
+use Rattle.sequence.specs.Lists.{In, first, later}
 use Rattle.sequence.proofs.FillingLaws.{same-or-not}
-use Rattle.memory.specs.Memory.{markOf, withMark, bitsOf, Below}
-use Rattle.tables.specs.Prepared.{Prepared, Sooner, listAt}
+use Rattle.memory.specs.Memory.{bitsOf, Below}
+use Rattle.tables.specs.Prepared.{listAt}
 use Rattle.walk.specs.Steps.{isLeft, Unmarked}
 use Rattle.walk.proofs.Candidates.{sooner-apart}
 use Rattle.walk.proofs.PlaceLaws.{list-lent, list-below}
 use Rattle.walk.proofs.SpanLaws.{spans-rise}
 use Rattle.walk.proofs.Turns.{rising-each}
 use Rattle.tables.proofs.PreparedLaws.{span-says}
-use Rattle.layering.specs.Digits.{Apart, Spread}
+use Rattle.layering.specs.Digits.{Apart, Spread, MarkedWith, Filled}
 use Rattle.layering.specs.States.{Laid, Sides}
-use Rattle.layering.specs.Sweeping.{Marked}
 use Rattle.layering.proofs.StateLaws.{list-long}
 
 -- ---- digits that are all 0
-
-some-digit : (marks : List ℕ) (b : ℕ) (js : List ℕ) → 0 < b → 0 < foldl (withMark marks) b js
-some-digit marks b [] h = h
-some-digit marks b (j ∷ js) h = some-digit marks (withMark marks b j) js (omega arith)
-
-zero-digit : (marks : List ℕ) (j : ℕ) → markOf marks j ≡ 0 → isLeft marks j ≡ true
-zero-digit marks j = go (eqb (getD marks j 0) 0)
-  where
-    go : (t : Bool) → _≡_ {A = ℕ} (cond t 0 1) 0 → t ≡ true
-    go true e = refl
-    go false e = absurd (omega arith)
-
-pub no-digits : (marks js : List ℕ) → bitsOf marks js ≡ 0 → (j : ℕ) → In j js → isLeft marks j ≡ true
-unfolding bitsOf
-no-digits marks (k ∷ js) e j h = ⊎-elim (λ q. rw q own) (λ m. no-digits marks js rest j m) (in-cons h)
-  where
-    own-zero : markOf marks k ≡ 0
-    own-zero = ⊎-elim (λ q. q) (λ n. absurd (omega (arith, some-digit marks (withMark marks 0 k) js (omega (arith, n))))) (same-or-not (markOf marks k) 0)
-
-    own : isLeft marks k ≡ true
-    own = zero-digit marks k own-zero
-
-    rest : foldl (withMark marks) 0 js ≡ 0
-    rest = let none : withMark marks 0 k ≡ 0 = omega (arith, own-zero) in rw none at e
-no-digits marks [] e j h = absurd (not-in-nil h)
 
 pub all-digits : (marks js : List ℕ) → ((j : ℕ) → In j js → isLeft marks j ≡ true) → bitsOf marks js ≡ 0
 unfolding bitsOf
@@ -62,7 +35,7 @@ module _ {l : ℕ} {words ones twos starts slots : List ℕ} {i : ℕ} (laid : L
   abbrev table : List ℕ
   table = listAt starts slots i
 
-  pub list-apart : Apart table
+  list-apart : Apart table
   list-apart = record { each = rising-each (λ j k. sooner-apart words twos j k) (laid .prepared .sorted i inside) }
 
   -- an entry is in the list or it is not
@@ -88,20 +61,43 @@ module _ {l : ℕ} {words ones twos starts slots : List ℕ} {i : ℕ} (laid : L
           (listed-or-not k h);
     }
 
-    -- and where all digits are 0, those of a state before the place
-    pub sides-cleared : b ≡ 0 → Sides words ones twos marks′ i i
+  module _ {marks marks′ : List ℕ} {v : ℕ} (sides : Sides words ones twos marks i (i + 1)) (did : MarkedWith table marks v marks′) (small : v ≤ 1) where
+    other-left : (k : ℕ) → (In k table → ⊥) → isLeft marks′ k ≡ isLeft marks k
+    other-left k n = ap (λ x. eqb x 0) (did .others k n)
+
+    marked-digits : (k : ℕ) → k < length words → getD marks′ k 0 ≤ 1
+    marked-digits k h = ⊎-elim (λ m. rw (did .each k m) small) (λ n. rw (did .others k n) (sides .digits k h)) (listed-or-not k h)
+
+    -- where its entries are left, the marks are those of a state before the place
+    pub sides-cleared : v ≡ 0 → Sides words ones twos marks′ i i
     sides-cleared e = record {
-      marks-all = sides-spread .marks-all;
-      digits = sides-spread .digits;
-      past = sides-spread .past;
-      ahead = λ k h g. ⊎-elim (λ m. no-digits marks′ table (did .digits ∙ e) k m)
-          (λ n. same-left k n ∙ sides .ahead k h (later-than k h n g)) (listed-or-not k h);
+      marks-all = did .all ∙ sides .marks-all;
+      digits = marked-digits;
+      past = λ k h g. ⊎-elim (λ m. laid .prepared .here i k inside m .2) (λ n. sides .past k h (sym (other-left k n) ∙ g)) (listed-or-not k h);
+      ahead = λ k h g. ⊎-elim (λ m. eq-eqb (getD marks′ k 0) 0 (did .each k m ∙ e))
+          (λ n. other-left k n ∙ sides .ahead k h (later-than k h n g)) (listed-or-not k h);
     }
       where
         later-than : (k : ℕ) → k < length words → (In k table → ⊥) → i ≤ getD ones k 0 → i + 1 ≤ getD ones k 0
         later-than k h n g = ⊎-elim
             (λ q. absurd (n (laid .prepared .there i k inside h (omega (arith, q)) (omega (arith, q, spans-rise (laid .card) k h)))))
             (λ q. omega arith) (same-or-not (getD ones k 0) i)
+
+    -- and where they are placed, those of a state at the next one
+    pub sides-filled : v ≡ 1 → Sides words ones twos marks′ (i + 1) (i + 1 + 1)
+    sides-filled e = record {
+      marks-all = did .all ∙ sides .marks-all;
+      digits = marked-digits;
+      past = λ k h g. ⊎-elim (λ m. absurd (omega (arith, did .each k m, eqb-true (getD marks′ k 0) 0 g)))
+          (λ n. sooner-than k h n (sides .past k h (sym (other-left k n) ∙ g))) (listed-or-not k h);
+      ahead = λ k h g. ⊎-elim (λ m. absurd (omega (arith, laid .prepared .here i k inside m .1)))
+          (λ n. other-left k n ∙ sides .ahead k h (omega arith)) (listed-or-not k h);
+    }
+      where
+        sooner-than : (k : ℕ) → k < length words → (In k table → ⊥) → i ≤ getD twos k 0 → i + 1 ≤ getD twos k 0
+        sooner-than k h n g = ⊎-elim
+            (λ q. absurd (n (laid .prepared .there i k inside h (omega (arith, q, spans-rise (laid .card) k h)) (omega (arith, q)))))
+            (λ q. omega arith) (same-or-not (getD twos k 0) i)
 
 -- what spreading over the list asks, as the code lends it
 pub spread-asks : {l : ℕ} {words ones twos starts slots : List ℕ} {i lo hi n b : ℕ} → Laid l words ones twos starts slots → i < length words
@@ -117,13 +113,22 @@ spread-asks laid inside lo-is hi-is e few =
 -- ---- the ends of a sweep
 
 pub sides-marked : {l : ℕ} {words ones twos starts slots marks marks′ : List ℕ} → Laid l words ones twos starts slots
-    → length marks ≡ length words → Marked marks marks′
+    → length marks ≡ length words → Filled marks 1 marks′
     → Sides words ones twos marks′ (length words) (length words)
 sides-marked {words} {ones} {twos} {marks′ = marks′} laid all m = record {
   marks-all = m .all ∙ all;
   digits = λ k h. omega (arith, m .each k (omega arith));
   past = λ k h g. absurd (omega (arith, m .each k (omega arith), eqb-true (getD marks′ k 0) 0 g));
   ahead = λ k h g. absurd (omega (arith, spans-rise (laid .card) k h, span-says (laid .card .holds k h) .below));
+}
+
+pub sides-left : {words ones twos marks marks′ : List ℕ} → length marks ≡ length words → Filled marks 0 marks′
+    → Sides words ones twos marks′ 0 (0 + 1)
+sides-left {marks′ = marks′} all m = record {
+  marks-all = m .all ∙ all;
+  digits = λ k h. omega (arith, m .each k (omega arith));
+  past = λ k h g. omega arith;
+  ahead = λ k h g. eq-eqb (getD marks′ k 0) 0 (m .each k (omega arith));
 }
 
 pub sides-back : {words ones twos marks : List ℕ} {i : ℕ} → Sides words ones twos marks (i + 1) (i + 1) → Sides words ones twos marks i (i + 1)

@@ -1,9 +1,8 @@
 -- Laws of states: their cells, what the chances of one say of what is completed from it, and the marks around a placement. Assumes nothing.
 use mathlib.Core.Path.{_≡_, refl, sym, ap, _∙_}
-use mathlib.Core.Logic.{⊎-elim}
-use mathlib.Core.Bool.{Bool, true, false, cond, _&&_, not, true≢false}
+use mathlib.Core.Bool.{Bool, true, false, _&&_, not, true≢false}
 use mathlib.Core.List.{List, [], _∷_, _++_, map, flatMap, foldl}
-use mathlib.Core.Option.{Option, some}
+use mathlib.Core.Option.{some}
 use Prim.Native.Nat.{ℕ, suc, _+_, _-_, _*_, _%_, _^_, _≤_, _<_}
 use native.Mathlib.Omega.{arith}
 use native.Mathlib.Nat.{pow-suc, pow-zero, mul-comm, mul-assoc}
@@ -13,18 +12,18 @@ use lib.Dec.{eqb, ltb}
 use lib.ListN.{length, getD, set, take, drop, drop-of-length-le}
 use lib.Seq.{set-set, set-getD, length-slice, drop-cons}
 use borrow.Author.Tests.{eqb-true, eq-eqb, ne-eqb}
-use Rattle.sequence.specs.Lists.{In, first, later, keep}
+use Rattle.sequence.specs.Lists.{In, first}
 use Rattle.sequence.proofs.ListLaws.{in-keep}
 use Rattle.layers.specs.Narrow.{mostOver}
 use Rattle.layers.specs.Completed.{paths, isSome}
 use Rattle.memory.specs.Memory.{withMark, bitsOf}
 use Rattle.memory.proofs.KeyLaws.{mark-small}
 use Rattle.tables.specs.Prepared.{listAt}
-use Rattle.walk.specs.Steps.{isLeft, left, agrees, isDue}
-use Rattle.walk.specs.Going.{Wants, later-on}
-use Rattle.walk.proofs.PlaceLaws.{list-rises, list-ends, list-lent}
+use Rattle.walk.specs.Steps.{isLeft, agrees, isDue}
+use Rattle.walk.specs.Going.{later-on}
+use Rattle.walk.proofs.PlaceLaws.{list-lent}
 use Rattle.layering.specs.Digits.{digit, picked}
-use Rattle.layering.specs.States.{cellsOver, Laid, Sides, cellOf, duesIn, canStand, after, below, agreeing, Chances}
+use Rattle.layering.specs.States.{cellsOver, Laid, cellOf, duesIn, canStand, after, below, agreeing, Chances}
 use Rattle.layering.specs.Choosing.{Chooses}
 use Rattle.layering.specs.Stepping.{Cell, Told, Completes, Known, Placing}
 use Rattle.layering.proofs.ChooseLaws.{chosen-some}
@@ -122,7 +121,7 @@ pub some-map : {A B : Type 0} (f : A → B) (l : List A) → isSome (map f l) �
 some-map f [] = refl
 some-map f (x ∷ l) = refl
 
-pub some-append : {A : Type 0} (l m : List A) → isSome l ≡ true → isSome (l ++ m) ≡ true
+some-append : {A : Type 0} (l m : List A) → isSome l ≡ true → isSome (l ++ m) ≡ true
 some-append [] m h = absurd (true≢false (sym h))
 some-append (x ∷ l) m h = refl
 
@@ -140,7 +139,7 @@ module _ {l : ℕ} {words ones twos starts slots marks : List ℕ} {i c : ℕ} (
       ∙ chances .each j (in-keep (λ k. agrees i want (getD words k 0)) (picked c (listAt starts slots i)) m .0) .leads
 
   -- a build is completed from the state exactly if somebody is chosen
-  pub chosen-completes : {want at : ℕ} {more : Bool} → Chooses (listAt starts slots i) (agreeing words i want (picked c (listAt starts slots i))) at more
+  chosen-completes : {want at : ℕ} {more : Bool} → Chooses (listAt starts slots i) (agreeing words i want (picked c (listAt starts slots i))) at more
       → Completes l words ones twos marks i want (ltb at (length (listAt starts slots i)))
   chosen-completes {want} chosen = record {
     each = λ p wants. chosen-some chosen

@@ -1,8 +1,8 @@
 -- Laws of the sweep back over the places: a state that is not kept is passed over, the chances of one that is kept take its cell, and where
 -- the states of a place are done the next place has its turn. Assumes nothing.
-use mathlib.Core.Path.{_≡_, refl, sym, ap, _∙_}
+use mathlib.Core.Path.{_≡_, sym, ap, _∙_}
 use mathlib.Core.Logic.{⊎-elim}
-use mathlib.Core.Bool.{Bool, true, false, not, true≢false}
+use mathlib.Core.Bool.{true, not, true≢false}
 use mathlib.Core.List.{List}
 use Prim.Native.Nat.{ℕ, suc, _+_, _-_, _*_, _^_, _≤_, _<_}
 use native.Mathlib.Omega.{arith}
@@ -12,16 +12,14 @@ use lib.Seq.{getD-set-same, getD-set-other, length-slice}
 use lib.Pow.{pow-mono}
 use lib.Dec.{eqb}
 use borrow.Author.Tests.{eq-eqb, ne-eqb}
-use Rattle.sequence.specs.Lists.{In}
 use Rattle.sequence.proofs.FillingLaws.{same-or-not}
 use Rattle.layers.specs.Narrow.{mostOver}
 use Rattle.memory.specs.Memory.{bitsOf}
 use Rattle.tables.specs.Prepared.{listAt}
 use Rattle.walk.specs.Steps.{Unmarked}
-use Rattle.layering.specs.Digits.{Spread}
-use Rattle.layering.specs.States.{cellsOver, Laid, Sides, cellOf, triedAt, Chances, isKept, Closed, Exact}
+use Rattle.layering.specs.States.{cellsOver, Laid, Sides, cellOf, Chances, isKept}
 use Rattle.layering.specs.Stepping.{Told, Trying}
-use Rattle.layering.specs.Sweeping.{Half, Sweeping}
+use Rattle.layering.specs.Sweeping.{Half}
 use Rattle.layering.proofs.PlaceLaws.{tried-next, states-one}
 use Rattle.layering.proofs.StateLaws.{bits-few}
 use Rattle.layering.proofs.SideLaws.{all-digits}
@@ -46,7 +44,7 @@ module _ {l : ℕ} {words ones twos starts slots : List ℕ} (laid : Laid l word
       omega (arith, bits-few marks (listAt starts slots i))
 
   -- as many as the sets of a place's entries
-  sets-few : {i b : ℕ} → i < length words → b ≡ 2 ^ (getD starts (i + 1) 0 - getD starts i 0)
+  pub sets-few : {i b : ℕ} → i < length words → b ≡ 2 ^ (getD starts (i + 1) 0 - getD starts i 0)
       → (b ≤ cellsOver) × ((marks : List ℕ) → bitsOf marks (listAt starts slots i) < b)
   sets-few {i} {b} inside is =
       let long : getD starts (i + 1) 0 - getD starts i 0 ≡ length (listAt starts slots i) =

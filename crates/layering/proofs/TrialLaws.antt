@@ -2,7 +2,7 @@
 -- nothing.
 use mathlib.Core.Path.{_≡_, refl, sym, ap, _∙_}
 use mathlib.Core.Bool.{Bool, true, false, _&&_, not}
-use mathlib.Core.List.{List, [], _∷_}
+use mathlib.Core.List.{List, _∷_}
 use Prim.Native.Nat.{ℕ, suc, _+_, _-_, _*_, _^_, _≤_, _<_}
 use native.Mathlib.Omega.{arith}
 use native.Mathlib.Nat.{pow-suc, pow-zero}
@@ -17,7 +17,7 @@ use Rattle.tables.specs.Prepared.{part, listAt}
 use Rattle.walk.specs.Steps.{noWord, tries}
 use Rattle.walk.proofs.StepLaws.{part-cons, part-none, in-part, list-is}
 use Rattle.layering.specs.Digits.{digit, told}
-use Rattle.layering.specs.States.{Laid, duesIn, canStand, triedAt, after, Chances}
+use Rattle.layering.specs.States.{duesIn, canStand, triedAt, after, Chances}
 use Rattle.layering.specs.Stepping.{Trials, Trying, Placing}
 use Rattle.layering.proofs.PlaceLaws.{told-chances}
 

@@ -1,14 +1,13 @@
 -- What is tried at a place: the walk tries those that can stand there and whose word agrees, of equal words the first; whether a word agrees
 -- can be asked before or after. Assumes nothing.
 use mathlib.Core.Path.{_≡_, refl, sym, ap, _∙_}
-use mathlib.Core.Logic.{_⊎_, inl, inr, ⊎-elim}
 use mathlib.Core.Bool.{Bool, true, false, cond, _&&_, not, true≢false}
 use mathlib.Core.List.{List, [], _∷_}
 use Prim.Native.Nat.{ℕ, suc, _≤_, _<_}
 use native.Mathlib.Omega.{arith}
 use lib.Dec.{eqb}
 use lib.ListN.{length, getD}
-use borrow.Author.Tests.{eqb-true, eq-eqb, ne-eqb}
+use borrow.Author.Tests.{ne-eqb}
 use Rattle.sequence.specs.Lists.{In, first, later, Rising, flat, rises, keep}
 use Rattle.sequence.proofs.ListLaws.{not-in-nil, keep-in}
 use Rattle.walk.specs.Steps.{isLeft, agrees, able, isDue, opened, tries}

@@ -5,6 +5,8 @@
 --   told ok leads word c w js     == c, and after it a digit for each of js: 1 for one that is tried and leads on, where w was the last word tried
 --   Apart js                      == no entry is twice in the list
 --   Spread list marks b marks′    == the digits of b are the marks of the list, and the other marks are as they were
+--   MarkedWith list marks v marks′ == each entry of the list is marked with v, and the other marks are as they were
+--   Filled xs v xs′               == as many numbers, each of which is v
 -- Assumes nothing.
 use mathlib.Core.Path.{_≡_}
 use mathlib.Core.Bool.{Bool, cond, _&&_, not}
@@ -35,3 +37,12 @@ pub record Spread (list marks : List ℕ) (b : ℕ) (marks′ : List ℕ) : Type
   pub digits : bitsOf marks′ list ≡ b
   pub small : (j : ℕ) → In j list → getD marks′ j 0 ≤ 1
   pub others : (j : ℕ) → (In j list → ⊥) → getD marks′ j 0 ≡ getD marks j 0
+
+pub record MarkedWith (list marks : List ℕ) (v : ℕ) (marks′ : List ℕ) : Type 0 where
+  pub all : length marks′ ≡ length marks
+  pub each : (j : ℕ) → In j list → getD marks′ j 0 ≡ v
+  pub others : (j : ℕ) → (In j list → ⊥) → getD marks′ j 0 ≡ getD marks j 0
+
+pub record Filled (xs : List ℕ) (v : ℕ) (xs′ : List ℕ) : Type 0 where
+  pub all : length xs′ ≡ length xs
+  pub each : (k : ℕ) → k < length xs → getD xs′ k 0 ≡ v

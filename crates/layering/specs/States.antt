@@ -6,7 +6,8 @@
 --   Sides words ones twos marks lo hi  == each mark is 0 or 1, no entry that is left ends before the place lo, and each that begins at hi or
 --                                         later is left
 --   cellOf starts slots marks i        == the cell of a state at the place i
---   canStand twos marks i dues j       == entry j is left, and no other that is left ends at i, where so many do
+--   duesIn twos marks i js             == how many of js are left and end at i
+--   canStand twos marks i dues j       == entry j is left, and no other that is left ends at i, where `dues` of them do
 --   triedAt words twos starts slots marks i
 --                                      == what the walk tries at i, whatever the word before: of those that can stand and have one word the first
 --   after … i j, below … i j           == what the walk completes once entry j stands at i; with its word before each

@@ -1,8 +1,7 @@
 -- The sweep back over the places: in the cell of each state that is kept its chances take the place of the number that kept it.
---   Half l words ones twos starts slots table i b == the table has the chances of the states behind the place i, and of those at i whose digits
---                                                    are b or more; of the others it says which are kept
+--   Half l words ones twos starts slots table i b == the table has the chances of the kept states after the place i, and of those at i whose
+--                                                    digits are b or more; of the others it says which are kept
 --   Sweeping … marks table i b                    == the same, and the marks are those of a state at i
---   Marked marks marks′                           == every entry is marked
 -- Assumes nothing.
 use mathlib.Core.Path.{_≡_}
 use mathlib.Core.Bool.{true}
@@ -30,7 +29,3 @@ pub record Sweeping (l : ℕ) (words ones twos starts slots marks table : List �
   pub inside : i < length words
   pub sides : Sides words ones twos marks i (i + 1)
   pub half : Half l words ones twos starts slots table i b
-
-pub record Marked (marks marks′ : List ℕ) : Type 0 where
-  pub all : length marks′ ≡ length marks
-  pub each : (k : ℕ) → k < length marks → getD marks′ k 0 ≡ 1

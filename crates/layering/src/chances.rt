@@ -11,11 +11,9 @@ ghost use Rattle.memory.specs.Memory.{Below};
 ghost use Rattle.tables.specs.Spans.{mostNumbered};
 ghost use Rattle.layering.specs.States.{duesIn, canStand, after};
 ghost use Rattle.layering.specs.Stepping.{Cell, Known, Completes, Placing, Trying, Tried, Trials};
+use crate::CELLS;
 use crate::digits;
 use walk::NO_WORD;
-
-// So many sets have the entries over a place: two to the power of the most that there are.
-pub const CELLS: usize = 128;
 
 // The cell of the state at the place i, whose list is lent.
 pub fn cell_of(list: &[u16], marks: &[u8], i: usize) -> usize
@@ -35,7 +33,7 @@ pub fn tail_of(w: u32, l: usize) -> u32
 }
 
 // How many entries of the list are left and end at i.
-fn dues(list: &[u16], twos: &[u16], marks: &[u8], i: usize) -> usize
+pub fn dues(list: &[u16], twos: &[u16], marks: &[u8], i: usize) -> usize
     requires { ⌜ Below (now list) (length (now twos)) ⌝ }
     requires { ⌜ length (now marks) ≡ length (now twos) ⌝ }
     ensures { λ r. ⌜ r ≡ duesIn (now (twos .entry)) (now (marks .entry)) i (now (list .entry)) ⌝ }
@@ -51,8 +49,8 @@ fn dues(list: &[u16], twos: &[u16], marks: &[u8], i: usize) -> usize
     n
 }
 
-// Whether the entry e is left, no other that is left ends at i, where so many do, and its word is not the last one tried.
-fn can_stand(
+// Whether the entry e is left, no other that is left ends at i, where `dues` of them do, and its word is not the last one tried.
+pub fn can_stand(
     words: &[u32],
     twos: &[u16],
     marks: &[u8],

@@ -3,10 +3,10 @@ ghost use mathlib.Core.Path.{_≡_};
 ghost use mathlib.Core.Bool.{_&&_};
 ghost use Prim.Native.Nat.{_%_, _^_, _<_};
 ghost use lib.Dec.{eqb};
-ghost use lib.ListN.{length, drop};
+ghost use lib.ListN.{length};
 ghost use Rattle.memory.specs.Memory.{Below};
 ghost use Rattle.walk.specs.Steps.{agrees};
-ghost use Rattle.layering.specs.Digits.{picked, Apart, Spread};
+ghost use Rattle.layering.specs.Digits.{picked, Apart, Spread, MarkedWith, Filled};
 ghost use Rattle.layering.specs.States.{agreeing};
 ghost use Rattle.layering.specs.Choosing.{Chooses};
 
@@ -64,5 +64,29 @@ pub fn spread(list: &[u16], marks: &mut [u8], b: usize)
         let e = walk::at16(list, k);
         marks[e] = (rest % 2) as u8;
         rest = rest / 2;
+    }
+}
+
+// Marks each entry of the list with v.
+pub fn mark_list(list: &[u16], marks: &mut [u8], v: u8)
+    requires { ⌜ Below (now list) (length (now marks)) ⌝ }
+    ensures { λ _. ⌜ MarkedWith (now (list .entry)) (now (marks .entry)) v (now (marks .exit)) ⌝ }
+{
+    let mut k = 0;
+    while k < list.len() {
+        let e = walk::at16(list, k);
+        marks[e] = v;
+        k += 1;
+    }
+}
+
+// Every number of the list is v.
+pub fn fill(list: &mut [u8], v: u8)
+    ensures { λ _. ⌜ Filled (now (list .entry)) v (now (list .exit)) ⌝ }
+{
+    let mut k = 0;
+    while k < list.len() {
+        list[k] = v;
+        k += 1;
     }
 }

@@ -1,12 +1,13 @@
 // Span cards whose spans are at most 4 wide, settled without a budget, from place to place: a state at a place is the word before it and the
-// entries that are still unused. A place that has a build has at most 7 spans over it, so that the unused among them are one of at most 128
-// sets, and a cell for each place and set says which entries lead on from there to a build. The sweep goes from the last place to the first;
-// then the first build is read off. So the work is bounded: for each place 128 sets, and for each set 7 entries, each against the 7 of the
-// next place.
-pub mod chances;
-pub mod digits;
-pub mod reading;
-pub mod sweeping;
+// entries that are still unused. A card that has a build has at most 7 spans over a place, so that the unused among them are one of at most
+// 128 sets, and a table has a cell for each place and set. Forward, the cell of each state that can be reached is kept; backward, those that
+// are kept learn which entries lead on from there to a build; then the first build is read off. So the work is bounded: for each place at most
+// 128 sets, and for each set 7 entries, each against the 7 of the next place.
+mod chances;
+mod digits;
+mod keeping;
+mod reading;
+mod sweeping;
 
 ghost use Prim.Native.Nat.{_*_, _≤_, _<_};
 ghost use mathlib.Core.Path.{_≡_};
@@ -19,7 +20,9 @@ ghost use Rattle.layering.specs.States.{cellsOver, Laid};
 ghost use Rattle.layering.specs.Settled.{Settles, Crowding};
 use walk::Walked;
 
-// So many spans over a place leave no room for a build: one more than twice 4, less one.
+// So many sets have the entries over a place that is not crowded: the table has as many cells for each place.
+pub const CELLS: usize = 128;
+// So many spans over a place leave no room for a build: if each is at most 4 wide, all their places are among 7.
 const CROWD: usize = 8;
 
 // Whether one of the first m places has 8 or more spans over it.
@@ -57,7 +60,7 @@ fn settle_laid(
     ensures { λ r. ⌜ Settles l (entriesIn (now (words .entry)) (now (ones .entry)) (now (twos .entry))) r (now (first .exit)) ⌝ }
     ensures { λ _. ⌜ length (now (first .exit)) ≡ length (now (words .entry)) ⌝ }
 {
-    sweeping::mark_all(table);
+    keeping::keep(l, words, ones, twos, starts, slots, marks, table);
     sweeping::sweep(l, words, ones, twos, starts, slots, marks, table);
     if !chances::completes(l, words, ones, twos, starts, slots, marks, table, 0, 0) {
         return Walked::None(0);

@@ -4,13 +4,13 @@ ghost use Prim.Native.Nat.{_+_, _-_, _^_, _≤_, _<_};
 ghost use lib.ListN.{length, getD};
 ghost use Rattle.layers.specs.Narrow.{mostOver};
 ghost use Rattle.layering.specs.States.{Laid, Sides};
-ghost use Rattle.layering.specs.Sweeping.{Marked, Half, Sweeping};
+ghost use Rattle.layering.specs.Sweeping.{Half, Sweeping};
+use crate::CELLS;
 use crate::chances;
-use crate::chances::CELLS;
 use crate::digits;
 
 // How many sets n entries have.
-fn sets_of(n: usize) -> usize
+pub fn sets_of(n: usize) -> usize
     requires { ⌜ n ≤ mostOver ⌝ }
     ensures { λ r. ⌜ r ≡ 2 ^ n ⌝ }
 {
@@ -47,7 +47,7 @@ fn sweep_state(
     table[cell] = chances::chances(l, words, ones, twos, starts, slots, marks, table, i);
 }
 
-// The states at the place i. Then the entries of its list are left, as they are before any place ahead of it is filled.
+// The states at the place i. Then the entries of its list are left: those that begin there are never placed at an earlier place.
 fn sweep_place(
     l: usize,
     words: &[u32],
@@ -75,18 +75,7 @@ fn sweep_place(
         b -= 1;
         sweep_state(l, words, ones, twos, starts, slots, marks, table, i, b);
     }
-    digits::spread(&slots[lo..end], marks, 0);
-}
-
-// Every number of the list is 1: every entry is marked, or every state is kept.
-pub fn mark_all(marks: &mut [u8])
-    ensures { λ _. ⌜ Marked (now (marks .entry)) (now (marks .exit)) ⌝ }
-{
-    let mut k = 0;
-    while k < marks.len() {
-        marks[k] = 1;
-        k += 1;
-    }
+    digits::mark_list(&slots[lo..end], marks, 0);
 }
 
 // All places, from the last to the first. Then every entry is left again.
@@ -108,7 +97,7 @@ pub fn sweep(
         (now (table .exit)) 0 0
         ⌝ }
 {
-    mark_all(marks);
+    digits::fill(marks, 1);
     let mut i = words.len();
     while 0 < i {
         i -= 1;

@@ -11,9 +11,9 @@ use borrow.Author.Tests.{eqb-true, eqb-false, eq-eqb, ne-eqb}
 use Rattle.entries.specs.declared.Slot.{Slot}
 use Rattle.sequence.specs.Lists.{In, Rising, keep, numbers}
 use Rattle.sequence.specs.Build.{Build}
-use Rattle.sequence.specs.Verdict.{Tells, Outcome, settled}
+use Rattle.sequence.specs.Verdict.{Tells, settled}
 use Rattle.spans.specs.Walk.{wordOf, isCandidate, tried, walk, walked, builds, placements}
-use Rattle.spans.specs.Settling.{Entered, spanEntries, verdictOn, outcome, Means, settles, goes-on}
+use Rattle.spans.specs.Settling.{Entered, spanEntries, verdictOn, Means, settles}
 use Rattle.spans.proofs.Feasible.{Allowed}
 use Rattle.spans.proofs.Order.{Sooner, firsts}
 use Rattle.spans.proofs.Indices.{choiceIn, walk-table}
@@ -97,7 +97,7 @@ builds-paths l es h = go (length es) h
     go (suc n) h = full-walk l n 0 none es
 
 -- whatever the budget, the verdict by all builds is true
-pub builds-tell : {l : ℕ} {es : List Slot} → Entered l es → Tells (Build l (spanEntries es)) (verdictOn l (builds l es))
+builds-tell : {l : ℕ} {es : List Slot} → Entered l es → Tells (Build l (spanEntries es)) (verdictOn l (builds l es))
 builds-tell {l} {es} entered =
     go (rw (outcome-settles l es (placements l es) (omega arith)) at (outcome-means entered (placements l es)))
   where

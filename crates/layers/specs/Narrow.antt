@@ -2,17 +2,19 @@
 --   widestNarrow     == the places of a narrow span at most
 --   isNarrow e       == the span of the entry e is narrow
 --   Narrow es        == the spans of the entries es are narrow
---   isOver i e       == it holds the place i
+--   isOver i e       == the span of the entry e holds the place i
 --   crowd i es       == how many of the entries es have a span that holds the place i
---   mostOver         == so many are not yet a crowd without a build
+--   mostOver         == with more spans over a place there is no build
 -- Assumes nothing.
 use mathlib.Core.Path.{_≡_}
-use mathlib.Core.Bool.{Bool, true, _&&_}
+use mathlib.Core.Bool.{Bool, true}
 use mathlib.Core.List.{List}
 use Prim.Native.Nat.{ℕ, _+_, _-_}
 use lib.Dec.{leb}
 use lib.ListN.{length}
 use Rattle.entries.specs.declared.Slot.{Slot}
+use Rattle.entries.specs.declared.Places.the-variants.{Span}
+use Rattle.entries.specs.Entry.{allows}
 use Rattle.sequence.specs.Lists.{In, keep}
 
 -- "spans at most 4 wide"
@@ -27,7 +29,7 @@ pub record Narrow (es : List Slot) : Type 0 where
   pub each : (e : Slot) → In e es → isNarrow e ≡ true
 
 abbrev pub isOver : ℕ → Slot → Bool
-isOver i e = leb (e .one) i && leb i (e .two)
+isOver i e = allows (Span (e .one) (e .two)) i
 
 unfoldable pub crowd : ℕ → List Slot → ℕ
 crowd i es = length (keep (isOver i) es)

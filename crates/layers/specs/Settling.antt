@@ -1,5 +1,5 @@
 -- What an answer on a narrow span card means (02, section 11).
---   Means l es o     == the outcome o is true of the entries es, over all builds
+--   Means l es o     == the outcome o is true of the entries es, over all builds, with placements 0; that the spans are narrow is tested first
 -- Assumes nothing.
 use mathlib.Core.List.{List}
 use Prim.Native.Nat.{ℕ}

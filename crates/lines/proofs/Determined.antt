@@ -7,23 +7,39 @@ use contract.Lifetimes.{Lfts}
 use denote.Ref.{now}
 use denote.Triple.Clauses.{AtExit}
 use borrow.Fn.Kinds.{Dens, resT, endedOf}
+use Rattle.answers.specs.Answer.{Answer}
 use Rattle.layout.specs.Layout.{toldBy}
+use Rattle.sequence.specs.Verdict.{Outcome}
 use Rattle.builds.proofs.Determined.{says-one}
+use Rattle.narrow.proofs.SettlingLaws.{settled-one}
 use Rattle.counting.proofs.CountingLaws.{counts-one}
 use Rattle.text.proofs.PrintedLaws.{printed-one}
-use Rattle.lines.specs.Lines.{linesOf, Reports}
+use Rattle.lines.specs.Lines.{linesOf, ReportsBy, Reports}
 use Rattle.lines.proofs.report.Kinds as report
 use Rattle.lines.proofs.report.Reads as report-reads
+use Rattle.lines.proofs.settle.report.Kinds as settle
+use Rattle.lines.proofs.settle.report.Reads as settle-reads
 use Rattle.lines.proofs.count.report.Kinds as count
 use Rattle.lines.proofs.count.report.Reads as count-reads
 
--- one thing at most is printed for a card
+-- where one answer at most is said of a card, one thing at most is printed for it
+pub reported-one : {Says : Answer Outcome → Type 0} → ((a b : Answer Outcome) → Says a → Says b → a ≡ b) → {card xs ys : List ℕ}
+    → ReportsBy Says card xs
+    → ReportsBy Says card ys
+    → xs ≡ ys
+reported-one one {card} p q = p .printed ∙ ap (linesOf (toldBy card)) (one (p .said) (q .said) (p .says) (q .says)) ∙ sym (q .printed)
+
 pub reports-one : {limit : ℕ} {card xs ys : List ℕ} → Reports limit card xs → Reports limit card ys → xs ≡ ys
-reports-one {card} p q = p .printed ∙ ap (linesOf (toldBy card)) (says-one (p .says) (q .says)) ∙ sym (q .printed)
+reports-one p q = reported-one (λ a b. says-one) p q
 
 pub report-one : (κs : Lfts 2) (a : Dens κs report.ps) (r r′ : resT report.r κs .Denot) (e e′ : AtExit (endedOf 2 report.ps report.r) κs)
     → report-reads.Post κs a r e → report-reads.Post κs a r′ e′ → (r ≡ r′) × (now (e .1 .0) ≡ now (e′ .1 .0))
 report-one κs a r r′ e e′ p q = printed-one (λ xs ys. reports-one) p q
+
+pub settle-report-one : (κs : Lfts 2) (a : Dens κs settle.ps) (r r′ : resT settle.r κs .Denot)
+    (e e′ : AtExit (endedOf 2 settle.ps settle.r) κs)
+    → settle-reads.Post κs a r e → settle-reads.Post κs a r′ e′ → (r ≡ r′) × (now (e .1 .0) ≡ now (e′ .1 .0))
+settle-report-one κs a r r′ e e′ p q = printed-one (λ xs ys. reported-one (λ x y. settled-one)) p q
 
 pub count-report-one : (κs : Lfts 2) (a : Dens κs count.ps) (r r′ : resT count.r κs .Denot) (e e′ : AtExit (endedOf 2 count.ps count.r) κs)
     → count-reads.Post κs a r e → count-reads.Post κs a r′ e′ → (r ≡ r′) × (now (e .1 .0) ≡ now (e′ .1 .0))

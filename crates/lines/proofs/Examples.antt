@@ -66,13 +66,22 @@ s1-reports =
 -- ---- the other answers
 
 pub other-lines : map (linesOf (record { kind = pair; l = 12; m = 504 }))
-    (given (settled (p2 .verdict) 0) ∷ given (settled noBuild 0) ∷ given (unsettled 1000000) ∷ refused 1 0 ∷ refused 11 503 ∷ [])
+    (
+    given (settled (p2 .verdict) 0)
+    ∷ given (settled noBuild 0)
+    ∷ given (unsettled 1000000)
+    ∷ refused 1 0
+    ∷ refused 11 503
+    ∷ refused 30 503
+    ∷ []
+    )
     ≡ (
     ascii "CARD pair 12 504\nsole ACAGA 0\n"
     ∷ ascii "CARD pair 12 504\nnone 0\n"
     ∷ ascii "CARD pair 12 504\nunsettled 1000000\n"
     ∷ ascii "refused 1 0\n"
     ∷ ascii "refused 11 503\n"
+    ∷ ascii "refused 30 503\n"
     ∷ []
     )
 unfolding linesOf cardLine kindName decimal digitsIn letters letterOf

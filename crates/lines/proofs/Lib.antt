@@ -1,6 +1,6 @@
--- `LinesLaws`, `ReportLaws`: the lines of `build` as they are put, and its report. `CountLaws`: the line of `count_builds`. `LongInput`: the
--- first bytes of the input are enough. `NeverRoom`: 12 never comes. `Determined`: each contract has one outcome. `Examples`: the lines that 01
--- shows, and the others.
+-- `LinesLaws`, `ReportLaws`: the lines of `build` and `settle` as they are put, and their reports. `CountLaws`: the line of `count_builds`.
+-- `LongInput`: the first bytes of the input are enough. `NeverRoom`: 12 never comes. `Determined`: each contract has one outcome. `Examples`:
+-- the lines that 01 shows, and the others.
 pub mod LinesLaws
 pub mod ReportLaws
 pub mod CountLaws

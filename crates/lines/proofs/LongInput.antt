@@ -18,13 +18,16 @@ use Rattle.card.proofs.ReadingLaws.{head-has, reading-stops, size-wrong}
 use Rattle.sequence.specs.Many.{Power}
 use Rattle.sequence.specs.Verdict.{Outcome}
 use Rattle.sequence.proofs.FillingLaws.{lt-or-le}
-use Rattle.builds.specs.Building.{Says, tells, refuses}
+use Rattle.builds.specs.Building.{buildTests, Says, tells, refuses}
 use Rattle.builds.proofs.CardLaws.{reader-refuses}
+use Rattle.narrow.specs.Settling as settling
+use Rattle.narrow.proofs.TestLaws as narrowing
 use Rattle.counting.specs.Counting.{OfCard}
 use Rattle.counting.specs.Counting as counting
 use Rattle.counting.proofs.CountingLaws.{tests-refuse}
 use Rattle.input.specs.Input.{programBytes}
-use Rattle.lines.specs.Lines.{linesOf, Reports}
+use Rattle.lines.specs.Lines.{lettersRoom, linesOf, ReportsBy, Reports}
+use Rattle.lines.specs.SettleLines.{SettleReports}
 use Rattle.lines.specs.CountLine.{CountReports}
 
 -- ---- input that is longer than any card
@@ -100,28 +103,50 @@ module _ (limit : ℕ) {Is : List ℕ → Type 0} (too : (card other : List ℕ)
       ⊎-elim (λ long. too card (take (programBytes limit) card) (front-alike limit card long) is) (λ short. rw (take-all (programBytes limit) card (omega arith)) is)
       (lt-or-le (sizeOf limit) (length card))
 
--- ---- `build`
+-- ---- the lines of `build` and `settle`
 
 module _ {limit : ℕ} {card other : List ℕ} (alike : Alike limit card other) where
-  said-too : {budget room : ℕ} {a : Answer Outcome} → Says limit card budget room a → Says limit other budget room a
-  said-too {room} (tells e means) = absurd (given-not-refused (sym e ∙ reader-refuses limit card room (alike .here)))
-  said-too {room} (refuses e) =
-      refuses (reader-refuses limit other room (alike .there) ∙ sym (reader-refuses limit card room (alike .here)) ∙ e)
-
-  reports-too : {bytes : List ℕ} → Reports limit card bytes → Reports limit other bytes
-  reports-too r = record {
+  -- where the same is said of both, the same is printed
+  reported-too : {Says SaysOther : Answer Outcome → Type 0} → ((a : Answer Outcome) → Says a → SaysOther a) → {bytes : List ℕ}
+      → ReportsBy Says card bytes
+      → ReportsBy SaysOther other bytes
+  reported-too too r = record {
     said = r .said;
-    says = said-too (r .says);
+    says = too (r .said) (r .says);
     printed = r .printed ∙ ap (λ (b : List ℕ). linesOf (formatOf b) (r .said)) (sym (alike .block));
   }
+
+  building-refused : (room : ℕ)
+      → (first (buildTests limit card room) sound ≡ refused (alike .number) (alike .place))
+      × (first (buildTests limit other room) sound ≡ refused (alike .number) (alike .place))
+  building-refused room = (reader-refuses limit card room (alike .here), reader-refuses limit other room (alike .there))
+
+  said-too : {budget room : ℕ} {a : Answer Outcome} → Says limit card budget room a → Says limit other budget room a
+  said-too {room} (tells e means) = absurd (given-not-refused (sym e ∙ building-refused room .0))
+  said-too {room} (refuses e) = refuses (building-refused room .1 ∙ sym (building-refused room .0) ∙ e)
+
+  settled-too : (room : ℕ) {a : Answer Outcome} → settling.OfCard limit card room a → settling.OfCard limit other room a
+  settled-too room (settling.tells e m) =
+      absurd (given-not-refused (sym e ∙ narrowing.tests-refuse _ _ (buildTests limit card room) (building-refused room .0)))
+  settled-too room (settling.refuses e) =
+      settling.refuses
+      (narrowing.tests-refuse _ _ (buildTests limit other room) (building-refused room .1)
+      ∙ sym (narrowing.tests-refuse _ _ (buildTests limit card room) (building-refused room .0))
+      ∙ e)
 
 -- what is printed for the first bytes is what is printed for all of it, and nothing else is
 module _ (limit : ℕ) (card : List ℕ) {bytes : List ℕ} where
   pub front-enough : Reports limit (take (programBytes limit) card) bytes → Reports limit card bytes
-  front-enough = enough limit (λ one other alike. reports-too alike) card
+  front-enough = enough limit (λ one other alike. reported-too alike (λ a. said-too alike)) card
 
   pub front-needed : Reports limit card bytes → Reports limit (take (programBytes limit) card) bytes
-  front-needed = needed limit (λ one other alike. reports-too alike) card
+  front-needed = needed limit (λ one other alike. reported-too alike (λ a. said-too alike)) card
+
+  pub settle-front-enough : SettleReports limit (take (programBytes limit) card) bytes → SettleReports limit card bytes
+  settle-front-enough = enough limit (λ one other alike. reported-too alike (λ a. settled-too alike (lettersRoom limit))) card
+
+  pub settle-front-needed : SettleReports limit card bytes → SettleReports limit (take (programBytes limit) card) bytes
+  settle-front-needed = needed limit (λ one other alike. reported-too alike (λ a. settled-too alike (lettersRoom limit))) card
 
 -- ---- `count_builds`
 

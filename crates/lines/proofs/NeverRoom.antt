@@ -1,7 +1,7 @@
--- With room for the longest sequence 12 never comes: what is refused is refused by the reader, whose numbers are below 12, and the line
--- `refused 12 0` is never printed. Assumes nothing.
+-- With room for the longest sequence 12 never comes: what is refused is refused by the reader, whose numbers are below 12, or by 5 or 30, and
+-- the line `refused 12 0` is never printed. Assumes nothing.
 use mathlib.Core.Path.{_≡_, refl, sym, ap, _∙_}
-use mathlib.Core.Logic.{⊎-elim}
+use mathlib.Core.Logic.{_⊎_, inl, inr, ⊎-elim}
 use mathlib.Core.Bool.{Bool, true, false, _&&_}
 use mathlib.Core.List.{List, [], _∷_, _++_}
 use Prim.Native.Nat.{ℕ, zero, suc, _+_, _/_, _%_, _≤_, _<_}
@@ -10,7 +10,7 @@ use native.Mathlib.Omega.{arith}
 use lib.Dec.{ltb}
 use lib.ListN.{length, getD}
 use borrow.Author.Tests.{ltb-true}
-use Rattle.answers.specs.Numbers.{Spare, Room}
+use Rattle.answers.specs.Numbers.{Spare, Room, Wider}
 use Rattle.answers.specs.Answer.{Answer, given, refused, Sound, sound, Test, test, first}
 use Rattle.answers.specs.Row.{inTurn}
 use Rattle.answers.proofs.Laws.{given-not-refused}
@@ -26,11 +26,14 @@ use Rattle.sequence.specs.Verdict.{sole, several, noBuild, Outcome, settled, un
 use Rattle.sequence.proofs.FillingLaws.{lt-or-le}
 use Rattle.builds.specs.Building.{buildTests, Says, refuses}
 use Rattle.builds.proofs.CardLaws.{reader-refuses, has-room}
+use Rattle.narrow.specs.Settling as settling
+use Rattle.narrow.proofs.TestLaws as narrowing
 use Rattle.counting.specs.Counting.{OfCard}
 use Rattle.counting.specs.Counting as counting
 use Rattle.counting.proofs.CountingLaws.{refusals}
-use Rattle.text.specs.Text.{ascii, digit, decimal}
+use Rattle.text.specs.Text.{ascii, digit, digitsIn, decimal}
 use Rattle.lines.specs.Lines.{programBudget, lettersRoom, cardLine, linesOf, Reports}
+use Rattle.lines.specs.SettleLines.{SettleReports}
 use Rattle.text.proofs.DecimalLaws.{decimal-one, decimal-more}
 
 -- ---- the reader's numbers
@@ -87,8 +90,21 @@ module _ (limit : ℕ) (card : List ℕ) {n p : ℕ} where
           let same : k ≡ n = cc (reader-refuses limit card (lettersRoom limit) stops) in
           rw same at (below-refused (readingOrder limit card) (order-below limit card) stops)
 
+said-below : {limit n p : ℕ} {card : List ℕ} → Says limit card programBudget (lettersRoom limit) (refused n p) → n < Room
+said-below {limit} {card = card} (refuses e) = room-enough limit card e
+
 pub never-said : {limit p : ℕ} {card : List ℕ} → Says limit card programBudget (lettersRoom limit) (refused Room p) → ⊥
-never-said {limit} {card} (refuses e) = omega (arith, room-enough limit card e)
+never-said says = omega (arith, said-below says)
+
+-- settling has one number above it
+settled-other : (limit : ℕ) (card : List ℕ) {n p : ℕ} → settling.OfCard limit card (lettersRoom limit) (refused n p)
+    → (n < Room) ⊎ (n ≡ Wider)
+settled-other limit card (settling.refuses e) =
+    ⊎-elim (λ h. inl (room-enough limit card h)) (λ h. ⊎-elim (λ k. inl (omega (arith, k))) inr (h .1))
+    (narrowing.refusals _ _ (buildTests limit card (lettersRoom limit)) e)
+
+pub settle-never-said : (limit : ℕ) (card : List ℕ) {p : ℕ} → settling.OfCard limit card (lettersRoom limit) (refused Room p) → ⊥
+settle-never-said limit card says = ⊎-elim (λ h. omega arith) (λ h. omega (arith, h)) (settled-other limit card says)
 
 -- nor from counting builds, which tests no room
 pub count-never-said : (limit : ℕ) (card : List ℕ) {n p : ℕ} → OfCard limit card (refused n p) → n < Room
@@ -110,19 +126,34 @@ second-byte n rest h e = ⊎-elim one two (lt-or-le n 10)
         let z : digit (n % 10) ≡ code "2" = rw (decimal-more n g, ten, decimal-one 1 (omega arith)) at e in
         omega arith
 
+-- and so does that of 30
+wider-byte : {n : ℕ} (rest : List ℕ) → n ≡ Wider → getD (decimal n ++ (ascii " " ++ rest)) 1 0 ≡ code "2" → ⊥
+unfolding decimal digitsIn
+wider-byte {n} rest h e = let z : code "0" ≡ code "2" = rw h at e in omega arith
+
 -- a line of a card does not begin as a refusal's does
 capital : {rest more : List ℕ} → code "C" ∷ rest ≡ code "r" ∷ more → ⊥
 capital e = let z : code "C" ≡ code "r" = ap (λ (xs : List ℕ). getD xs 0 0) e in omega arith
 
-pub never-printed : {limit : ℕ} {card bytes : List ℕ} → Reports limit card bytes → bytes ≡ ascii "refused 12 0\n" → ⊥
+-- where what is said is refused, if at all, by another number
+not-printed : (f : Format) (a : Answer Outcome) → ((n p : ℕ) → a ≡ refused n p → (n < Room) ⊎ (n ≡ Wider))
+    → linesOf f a ≡ ascii "refused 12 0\n"
+    → ⊥
 unfolding linesOf cardLine
-never-printed {limit} {card} reports e = go (reports .said) (reports .says) (sym (reports .printed) ∙ e)
-  where
-    go : (a : Answer Outcome) → Says limit card programBudget (lettersRoom limit) a → linesOf (toldBy card) a ≡ ascii "refused 12 0\n"
-        → ⊥
-    go (given (settled (sole s) n)) says e = capital e
-    go (given (settled (several s) n)) says e = capital e
-    go (given (settled noBuild n)) says e = capital e
-    go (given (unsettled n)) says e = capital e
-    go (refused n p) (refuses r) e =
-        second-byte n _ (room-enough limit card r) (ap (λ (xs : List ℕ). getD xs (length (ascii "refused ") + 1) 0) e)
+not-printed f (given (settled (sole s) n)) other e = capital e
+not-printed f (given (settled (several s) n)) other e = capital e
+not-printed f (given (settled noBuild n)) other e = capital e
+not-printed f (given (unsettled n)) other e = capital e
+not-printed f (refused n p) other e =
+    let byte = ap (λ (xs : List ℕ). getD xs (length (ascii "refused ") + 1) 0) e in
+    ⊎-elim (λ h. second-byte n _ h byte) (λ h. wider-byte _ h byte) (other n p refl)
+
+pub never-printed : {limit : ℕ} {card bytes : List ℕ} → Reports limit card bytes → bytes ≡ ascii "refused 12 0\n" → ⊥
+never-printed {card} reports e =
+    not-printed (toldBy card) (reports .said) (λ n p is. inl (said-below (rw is at (reports .says)))) (sym (reports .printed) ∙ e)
+
+pub settle-never-printed : (limit : ℕ) (card : List ℕ) {bytes : List ℕ} → SettleReports limit card bytes
+    → bytes ≡ ascii "refused 12 0\n"
+    → ⊥
+settle-never-printed limit card reports e =
+    not-printed (toldBy card) (reports .said) (λ n p is. settled-other limit card (rw is at (reports .says))) (sym (reports .printed) ∙ e)

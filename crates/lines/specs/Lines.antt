@@ -5,7 +5,9 @@
 --   cardLine f               == line 1, of a card of this format
 --   refusalLine n p          == the one line of a refusal
 --   linesOf f a              == all that is printed, where a is what is said of a card of this format
---   Reports limit card bytes == what is printed for the card
+--   ReportsBy Says card bytes
+--                            == what is printed for the card, where Says tells what is said of it
+--   Reports limit card bytes == what `build` prints for the card
 -- Assumes nothing.
 use mathlib.Core.Path.{_≡_}
 use mathlib.Core.Bool.{cond}
@@ -49,8 +51,11 @@ linesOf f (given (settled noBuild n)) = cardLine f ++ line (ascii "none") (decim
 linesOf f (given (unsettled n)) = cardLine f ++ line (ascii "unsettled") (decimal n ∷ [])
 linesOf f (refused n p) = refusalLine n p
 
--- "The program `build` reads one card from standard input, uses budget 1,000,000, and […] writes"
-pub record Reports (limit : ℕ) (card bytes : List ℕ) : Type 0 where
+pub record ReportsBy (Says : Answer Outcome → Type 0) (card bytes : List ℕ) : Type 0 where
   pub said : Answer Outcome
-  pub says : Says limit card programBudget (lettersRoom limit) said
+  pub says : Says said
   pub printed : bytes ≡ linesOf (toldBy card) said
+
+-- "The program `build` reads one card from standard input, uses budget 1,000,000, and […] writes"
+abbrev pub Reports : ℕ → List ℕ → List ℕ → Type 0
+Reports limit card bytes = ReportsBy (Says limit card programBudget (lettersRoom limit)) card bytes

@@ -1,4 +1,4 @@
--- How many bytes the parts of the lines have: what the inner functions of both reports ask. A reader of their contracts needs none of it.
+-- How many bytes the parts of the lines have: what the inner functions of the reports ask. A reader of their contracts needs none of it.
 -- Assumes nothing.
 use Prim.Native.Nat.{ℕ, _+_}
 use Rattle.text.specs.Putting.{mostDigits}

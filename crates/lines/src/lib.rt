@@ -1,6 +1,7 @@
 // What the programs print for a card. `build`: line 1 with its kind, l and m and line 2 with its verdict, or the one line of a refusal.
-// `count_builds` has its own file.
+// `settle` and `count_builds` have their own files.
 pub mod count;
+pub mod settle;
 
 ghost use mathlib.Core.List.{[], _∷_, _++_};
 ghost use Prim.Native.Nat.{_+_, _≤_};
@@ -10,7 +11,8 @@ ghost use Rattle.layout.specs.Layout.{toldBy};
 ghost use Rattle.layout.specs.Bounds.{mostEntries};
 ghost use Rattle.text.specs.Text.{decimal, line, Printed};
 ghost use Rattle.text.specs.Putting.{mostDigits, Put};
-ghost use Rattle.lines.specs.Lines.{kindName, cardLine, refusalLine, Reports};
+ghost use Rattle.lines.specs.Lines.{lettersRoom, kindName, cardLine, refusalLine, Reports};
+ghost use Rattle.lines.specs.ByAnswer.{linesBy, Tellable};
 ghost use Rattle.lines.specs.Rooms.{nameBytes, cardRoom, refusalRoom};
 use answers::Refusal;
 use builds::BuildAnswer;
@@ -102,17 +104,27 @@ fn put_card_placements(out: &mut [u8], card: &[u8], verdict: &[u8], n: u32) -> u
     put_placements(out, at, verdict, n)
 }
 
-// What is printed for a card stands at the start of the buffer, whose later bytes are as they were; the answer is how many bytes it has.
-// The card is built from once, with room for the longest sequence.
-pub fn report(card: &[u8], out: &mut [u8; LINES]) -> usize
-    ensures { λ r. ⌜ Printed (Reports mostEntries (now (card .entry))) (now (out .entry)) r (now (out .exit)) ⌝ }
+// The lines by an answer, and by the letters that it left.
+fn put_answer(out: &mut [u8; LINES], card: &[u8], answer: BuildAnswer, letters: &[u8]) -> usize
+    requires { ⌜ Tellable (now card) answer (now letters) ⌝ }
+    requires { ⌜ length (now letters) ≤ lettersRoom mostEntries ⌝ }
+    ensures { λ r. ⌜ Put (linesBy (toldBy (now (card .entry))) answer (now (letters .entry))) 0 (now (out .entry)) r (now (out .exit)) ⌝ }
 {
-    let mut letters = [0u8; LETTERS];
-    match builds::build(card, BUDGET, &mut letters) {
+    match answer {
         BuildAnswer::Sole(n, k) => put_card_sequence(out, card, b"sole", &letters[..n], k),
         BuildAnswer::Several(n, k) => put_card_sequence(out, card, b"several", &letters[..n], k),
         BuildAnswer::None(k) => put_card_placements(out, card, b"none", k),
         BuildAnswer::Unsettled(k) => put_card_placements(out, card, b"unsettled", k),
         BuildAnswer::Refused(r) => put_refused(out, r),
     }
+}
+
+// What is printed for a card stands at the start of the buffer, whose later bytes are as they were; the answer is how many bytes it has.
+// The card is built from once, with room for the longest sequence.
+pub fn report(card: &[u8], out: &mut [u8; LINES]) -> usize
+    ensures { λ r. ⌜ Printed (Reports mostEntries (now (card .entry))) (now (out .entry)) r (now (out .exit)) ⌝ }
+{
+    let mut letters = [0u8; LETTERS];
+    let answer = builds::build(card, BUDGET, &mut letters);
+    put_answer(out, card, answer, &letters)
 }

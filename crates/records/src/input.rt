@@ -1,5 +1,6 @@
 // What a record has, read from standard input, little-endian: its fields and its lists.
 ghost use mathlib.Core.Path.{_≡_};
+ghost use mathlib.Core.Bool.{true};
 ghost use Prim.Native.Nat.{_+_, _≤_};
 ghost use lib.ListN.{length};
 ghost use Rattle.records.specs.Record.{fieldBytes, slots, eightAt};
@@ -69,6 +70,18 @@ pub fn places(n: usize) -> PlacesRead
         i += 1;
     }
     PlacesRead { list, whole: true }
+}
+
+// Whether a record can have lists of so many slots.
+pub fn are_few(a: usize, b: usize, c: usize) -> bool
+    ensures { λ r. ⌜ (r ≡ true → (a ≤ slots) × (b ≤ slots) × (c ≤ slots)) ⌝ }
+{
+    if a <= SLOTS {
+        if b <= SLOTS {
+            return c <= SLOTS;
+        }
+    }
+    false
 }
 
 // What was read of the three lists of a card: words, places one and places two; and whether the input has as many.

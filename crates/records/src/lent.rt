@@ -3,10 +3,12 @@ ghost use mathlib.Core.Path.{_≡_};
 ghost use lib.ListN.{length, replicate};
 ghost use Rattle.records.specs.Record.{slots, room, oldWord, oldPlace, oldByte};
 
-// The most slots of a list, and the most bytes that are lent.
+// The most slots of a list, the most bytes that are lent, and the most bytes of an output for letters.
 pub const SLOTS: usize = 600;
 
 pub const ROOM: usize = 6400;
+
+pub const LETTERS: usize = 600;
 
 // A list of words.
 pub fn words() -> [u32; SLOTS]

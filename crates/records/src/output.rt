@@ -1,4 +1,5 @@
 // The parts of a line, written to standard output as they come.
+use crate::hashes;
 use answers::Refusal;
 
 // A text.
@@ -28,6 +29,11 @@ pub fn two(name: &[u8], x: usize, y: usize) {
 pub fn three(name: &[u8], x: usize, y: usize, z: usize) {
     two(name, x, y);
     number(z)
+}
+
+// The hash of bytes, of an output after a call.
+pub fn hash(bytes: &[u8]) {
+    number(hashes::of_bytes(bytes))
 }
 
 // A refusal: its number and its place.

@@ -1,34 +1,51 @@
--- What the theorems of request 12 ask of a card some cards have: a card of `nearTable` has what `near-card-same` asks of a pair card, and there is
--- one of two copies of P1. Assumes nothing.
-use mathlib.Core.Path.{_≡_, refl}
+-- What the theorems of the requests ask of a card some cards have. Request 11: a card of each of S1 to S5 is narrow, one of `crowdedTable` has
+-- what `crowded-is-none` asks, one of `sevenTable` 7 spans over a place and a build, and one of `wideTable` what `settle-wider` asks; a pair card
+-- is one of P1 (`table-card` of the demands). Request 12: a card of `nearTable` has what `near-card-same` asks of a pair card, and there is one
+-- of two copies of P1. Assumes nothing.
+use mathlib.Core.Path.{_≡_, refl, sym, ap, _∙_}
 use mathlib.Core.Logic.{inl, inr, ⊎-elim}
-use mathlib.Core.List.{List, [], _∷_, map}
-use Prim.Native.Nat.{ℕ, _≤_}
+use mathlib.Core.List.{List, [], _∷_, map, flatMap}
+use Prim.Native.Nat.{ℕ, _+_, _≤_, _<_}
 use native.Mathlib.Omega.{arith}
+use lib.ListN.{length, getD}
 use Rattle.answers.specs.Answer.{given, first, sound}
 use Rattle.answers.specs.Row.{row, inTurn}
+use Rattle.answers.proofs.RowLaws.{length-row, row-at}
 use Rattle.entries.specs.declared.Slot.{Slot}
 use Rattle.entries.specs.Slot.{slotFrom, entriesIn}
-use Rattle.entries.specs.Fault.{pairHolds, placesHold, entryTests}
+use Rattle.entries.specs.Fault.{span, pairHolds, spanHolds, placesHold, entryTests}
+use Rattle.entries.specs.Entry.{placesOf, entryOf}
 use Rattle.layout.specs.Bounds.{mostEntries}
-use Rattle.layout.specs.Layout.{toldBy}
+use Rattle.layout.specs.Layout.{toldBy, slotOf}
 use Rattle.card.specs.Fetching.{admission}
 use Rattle.card.proofs.FetchingLaws.{admission-given}
 use Rattle.lists.specs.Lists.{listsTests}
-use Rattle.sequence.specs.Lists.{later}
+use Rattle.sequence.specs.Lists.{In, later}
 use Rattle.sequence.specs.Lists as lists
 use Rattle.sequence.specs.Arrangement.{overlaps}
-use Rattle.sequence.specs.Tables.{Table, storedIn, Told}
-use Rattle.sequence.proofs.ListLaws.{not-in-nil, in-cons}
+use Rattle.sequence.specs.Tables.{Table, storedIn, pairTables, spanTables, Told}
+use Rattle.sequence.proofs.ListLaws.{not-in-nil, in-cons, in-append-right}
 use Rattle.sequence.proofs.Enumerator.{sequences}
 use Rattle.sequence.proofs.VerdictOf.{verdictOf}
-use Rattle.sequence.proofs.Tables.{tables-told}
+use Rattle.sequence.proofs.Tables.{map-agree, tables-told}
+use Rattle.spans.specs.Walk.{placements}
+use Rattle.spans.specs.Settling.{spanEntries}
+use Rattle.spans.specs.Tables.{Settles}
+use Rattle.spans.proofs.Tables.{tables-settle}
+use Rattle.layers.specs.Narrow.{Narrow, crowd, mostOver}
+use Rattle.layers.proofs.Crowded.{crowded-none}
 use Rattle.builds.specs.Building.{lettersIn, buildTests, slotsOn}
 use Rattle.builds.proofs.CardLaws.{order-held}
-use Rattle.demands.specs.Demanded.{OnCard}
+use Rattle.narrow.specs.Settling.{widthTests}
+use Rattle.narrow.proofs.TestLaws.{widths-narrow}
+use Rattle.sequence.specs.Verdict.{Tells}
+use Rattle.demands.specs.Demanded.{Fits, kindOf, OnCard}
 use Rattle.requests.specs.Neighbours.{Near, AllNear, nearTable}
 use Rattle.requests.specs.Counted.{p1Twice}
-use Rattle.demands.proofs.Inhabited.{wordsOf, onesOf, twosOf, tested, cards-of}
+use Rattle.requests.specs.Settled.{OnNarrowCard, FirstWide, crowdedTable, wideTable, sevenTable}
+use Rattle.demands.proofs.Inhabited.{wordsOf, onesOf, twosOf, tested, cards-of, table-card}
+use Rattle.requests.proofs.SettledLaws.{as-spans, on-table}
+use Rattle.requests.proofs.Settled.{all-spans, span-tables-settled}
 
 abbrev further : List Table
 further = nearTable ∷ p1Twice ∷ []
@@ -66,3 +83,121 @@ near-card =
     let room = lettersIn (toldBy (made .0)) in
     let order = order-held mostEntries (made .0) room (made .2 room (omega arith)) in
     (made .0, made .1, admission-given mostEntries (made .0) order, rw (made .1 .entries) near-table-near)
+
+-- ---- narrow span cards
+
+-- a card of each of S1 to S5 is one, with room for its sequence
+pub narrow-table-card : (t : Table) → In t spanTables
+    → (card : List ℕ) × OnCard t card × ((room : ℕ) → lettersIn (toldBy card) ≤ room → OnNarrowCard card room)
+narrow-table-card t h =
+    let made = table-card t (in-append-right pairTables h) in (
+      made .0,
+      made .1,
+      λ room g.
+          on-table (made .0) room (made .2 room g) t (map-agree kindOf (λ u. span) h all-spans) (span-tables-settled t h .0) (made .1),
+    )
+
+abbrev spanned : List Table
+spanned = crowdedTable ∷ wideTable ∷ sevenTable ∷ []
+
+spanned-hold : map tested spanned ≡ map (λ t. given sound) spanned
+unfolding listsTests entryTests placesHold spanHolds slotFrom inTurn first
+spanned-hold = refl
+
+spanned-stored : map (λ t. entriesIn (wordsOf t) (onesOf t) (twosOf t)) spanned ≡ map storedIn spanned
+unfolding slotFrom row
+spanned-stored = refl
+
+-- ---- with 8 spans over a place
+
+crowded-widths : first (widthTests 0 (storedIn crowdedTable)) sound ≡ given sound
+unfolding widthTests first
+crowded-widths = refl
+
+crowded-narrow : Narrow (storedIn crowdedTable)
+crowded-narrow = widths-narrow 0 (storedIn crowdedTable) crowded-widths
+
+crowded-over : crowd 0 (storedIn crowdedTable) ≡ 8
+unfolding crowd
+crowded-over = refl
+
+pub crowded-card : (card : List ℕ) × ((room : ℕ) → lettersIn (toldBy card) ≤ room → OnNarrowCard card room) × (mostOver < crowd 0 (slotsOn card))
+crowded-card =
+    let made = cards-of spanned spanned-hold spanned-stored crowdedTable lists.first in (
+      made .0,
+      λ room g. on-table (made .0) room (made .2 room g) crowdedTable refl crowded-narrow (made .1),
+      rw (made .1 .entries) (omega (arith, crowded-over)),
+    )
+
+-- ---- with an entry that is not narrow
+
+-- the entry e of a card of a table
+on-table-slot : {t : Table} {card : List ℕ} → OnCard t card → (d : Slot) (e : ℕ) → e < length (storedIn t)
+    → (e < toldBy card .m) × (slotOf card e ≡ getD (storedIn t) e d)
+on-table-slot {t} {card} on d e h =
+    let size = ap length (on .entries) in
+    let there : e < toldBy card .m = omega (arith, size, length-row (slotOf card) 0 (toldBy card .m)) in
+    let here : 0 + e ≡ e = omega arith in
+    (there, sym (rw here at (row-at (slotOf card) d 0 (toldBy card .m) e there)) ∙ ap (λ (es : List Slot). getD es e d) (on .entries))
+
+pub wide-card : (card : List ℕ) × ((room : ℕ) → lettersIn (toldBy card) ≤ room → first (buildTests mostEntries card room) sound ≡ given sound)
+    × ((toldBy card .kind ≡ span) × FirstWide card 1)
+wide-card =
+    let made = cards-of spanned spanned-hold spanned-stored wideTable (later lists.first) in
+    let d : Slot = record { word = 0; one = 0; two = 0 } in
+    let one = on-table-slot (made .1) d 1 (omega arith) in
+    let zeroth = on-table-slot (made .1) d 0 (omega arith) in (
+      made .0,
+      made .2,
+      (
+        made .1 .kind,
+        record {
+          there = one .0;
+          wide = rw (one .1) refl;
+          earlier = λ i h. let only : i ≡ 0 = omega arith in rw (only, zeroth .1) refl;
+        },
+      ),
+    )
+
+-- ---- what the three tables state is true
+
+spanned-as-spans : map (λ t. spanEntries (storedIn t)) spanned ≡ map (λ t. t .entries) spanned
+unfolding entryOf placesOf
+spanned-as-spans = refl
+
+spanned-walks : map (λ t. placements 2 (storedIn t)) spanned ≡ map (λ t. t .placements) spanned
+unfolding placements flatMap overlaps
+spanned-walks = refl
+
+rest-told : Told (wideTable ∷ sevenTable ∷ [])
+unfolding verdictOf sequences overlaps
+rest-told = tables-told (wideTable ∷ sevenTable ∷ []) refl
+
+spanned-told : Told spanned
+unfolding entryOf placesOf
+spanned-told t lists.first = crowded-none 2 0 (storedIn crowdedTable) crowded-narrow (omega (arith, crowded-over))
+spanned-told t (later h) = rest-told t h
+
+pub spanned-settle : Settles spanned
+spanned-settle = tables-settle spanned spanned-as-spans spanned-walks spanned-told
+
+-- ---- with 7 spans over a place, and a build: 8 is the least number that leaves none
+
+seven-widths : first (widthTests 0 (storedIn sevenTable)) sound ≡ given sound
+unfolding widthTests first
+seven-widths = refl
+
+seven-over : crowd 3 (storedIn sevenTable) ≡ mostOver
+unfolding crowd
+seven-over = refl
+
+pub seven-card : (card : List ℕ) × ((room : ℕ) → lettersIn (toldBy card) ≤ room → OnNarrowCard card room)
+    × ((crowd 3 (slotsOn card) ≡ mostOver) × Tells (Fits card) (sevenTable .verdict))
+seven-card =
+    let here : In sevenTable spanned = later (later lists.first) in
+    let made = cards-of spanned spanned-hold spanned-stored sevenTable here in
+    let told = rw (← spanned-settle sevenTable here .0) at (spanned-told sevenTable here) in (
+      made .0,
+      λ room g. on-table (made .0) room (made .2 room g) sevenTable refl (widths-narrow 0 (storedIn sevenTable) seven-widths) (made .1),
+      (rw (made .1 .entries) seven-over, as-spans (made .0) (sevenTable .verdict) (made .1 .kind) (rw (made .1 .letters, made .1 .entries) told)),
+    )

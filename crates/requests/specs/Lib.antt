@@ -1,3 +1,5 @@
--- `Neighbours` is the span card that a pair card with neighbouring places becomes, `Counted` how many builds a pair card has.
+-- `Neighbours` is the span card that a pair card with neighbouring places becomes, `Counted` how many builds a pair card has, `Settled`
+-- narrow span cards, settled without a budget.
 pub mod Neighbours
 pub mod Counted
+pub mod Settled

@@ -54,7 +54,8 @@ pub record Spanned (card card′ : List ℕ) : Type 0 where
   pub letters : toldBy card .l ≡ toldBy card′ .l
   pub entries : Converted (slotsOn card) (slotsOn card′)
 
--- "the same verdict and sequence": one verdict, with placements 0 on the pair card and any on the span card
+-- "the same verdict and sequence": one verdict, with placements 0 in the first answer and any in the second (a pair card's and its span
+-- card's; for request 11, settling's and build's)
 pub record SameSaid (before : List ℕ) (r : BuildAnswer) (after before′ : List ℕ) (r′ : BuildAnswer) (after′ : List ℕ) : Type 0 where
   pub verdict : Verdict
   pub placements : ℕ

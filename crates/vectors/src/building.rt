@@ -1,12 +1,9 @@
 // The record that builds from the card, and the line that it prints.
 use builds::BuildAnswer;
-use records::hashes;
 use records::input::FIELDS;
 use records::lent;
+use records::lent::LETTERS;
 use records::output;
-
-// The most bytes of an output.
-const ROOM: usize = 600;
 
 // What build answers: the verdict with its numbers, or the refusal.
 fn built(a: BuildAnswer) {
@@ -22,14 +19,14 @@ fn built(a: BuildAnswer) {
 // Builds from the card, and tells the answer and what the output holds afterwards.
 fn build(card: &[u8], budget: u32, out: &mut [u8]) {
     built(builds::build(card, budget, out));
-    output::number(hashes::of_bytes(out))
+    output::hash(out)
 }
 
 // Builds from the card, with the budget and into an output of as many bytes as the fields say, and answers whether there can be one.
 pub fn of_card(card: &[u8], fields: &[u8; FIELDS]) -> bool {
     let budget = block::four_at(fields, 0);
     let room = block::two_at(fields, 4) as usize;
-    if ROOM < room {
+    if LETTERS < room {
         return false;
     }
     let mut out = lent::bytes();

@@ -7,9 +7,9 @@ use card::Stepped;
 use entries::Entry;
 use entries::Places;
 use records::hashes;
+use records::input;
 use records::input::FIELDS;
 use records::lent;
-use records::lent::SLOTS;
 use records::output;
 
 // What admitting answers: the card's kind, l and m, after a name, or the refusal.
@@ -88,13 +88,7 @@ pub fn admit_into(card: &[u8], fields: &[u8; FIELDS]) -> bool {
     let a = block::two_at(fields, 0) as usize;
     let b = block::two_at(fields, 2) as usize;
     let c = block::two_at(fields, 4) as usize;
-    if SLOTS < a {
-        return false;
-    }
-    if SLOTS < b {
-        return false;
-    }
-    if SLOTS < c {
+    if !input::are_few(a, b, c) {
         return false;
     }
     let mut words = lent::words();

@@ -5,12 +5,10 @@ ghost use Rattle.records.specs.Record.{slots};
 ghost use Rattle.vectors.specs.Within.{Within};
 use card::Admitted;
 use entries::Format;
-use records::hashes;
 use records::input;
 use records::input::FIELDS;
 use records::lent;
 use records::lent::ROOM;
-use records::lent::SLOTS;
 use records::output;
 use writer::Written;
 
@@ -26,7 +24,7 @@ fn tell(w: Written, out: &[u8]) {
         Written::Card(n) => output::one(b"written", n),
         Written::Refused(r) => output::refused(r),
     }
-    output::number(hashes::of_bytes(out))
+    output::hash(out)
 }
 
 // Reads lists of a, b and c slots, and writes a card of them, with the kind and l that the fields say.
@@ -68,13 +66,7 @@ pub fn of_lists(fields: &[u8; FIELDS]) -> bool {
     let b = block::two_at(fields, 18) as usize;
     let c = block::two_at(fields, 20) as usize;
     let room = block::two_at(fields, 22) as usize;
-    if SLOTS < a {
-        return false;
-    }
-    if SLOTS < b {
-        return false;
-    }
-    if SLOTS < c {
+    if !input::are_few(a, b, c) {
         return false;
     }
     if ROOM < room {

@@ -89,7 +89,7 @@ pub struct WriteAnswer {
     pub length: usize,
 }
 
-/// What a build answers; all fields but number and place are 0 where it is refused.
+/// What a build answers, and a call that settles; all fields but number and place are 0 where it is refused.
 #[repr(C)]
 #[derive(Clone, Copy, Debug, Default, PartialEq, Eq)]
 pub struct BuildAnswer {
@@ -97,11 +97,11 @@ pub struct BuildAnswer {
     pub number: usize,
     /// The refusal's place, or 0.
     pub place: usize,
-    /// 1 for Sole, 2 for Several, 3 for None, 4 for Unsettled.
+    /// 1 for Sole, 2 for Several, 3 for None, 4 for Unsettled, which settling never answers.
     pub verdict: usize,
     /// The letters at the start of the output for Sole and Several, else 0.
     pub length: usize,
-    /// The placements up to the verdict, or the budget where it is Unsettled; 0 on a pair card.
+    /// The placements up to the verdict, or the budget where it is Unsettled; 0 on a pair card, and where a call settles.
     pub placements: usize,
 }
 

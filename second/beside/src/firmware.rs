@@ -47,6 +47,24 @@ mod exported {
             twos: *const u16,
             twos_len: usize,
         ) -> CountAnswer;
+        pub fn belfrymist_settle(
+            card: *const u8,
+            card_len: usize,
+            out: *mut u8,
+            out_len: usize,
+        ) -> BuildAnswer;
+        pub fn belfrymist_settle_lists(
+            kind: usize,
+            l: usize,
+            words: *const u32,
+            words_len: usize,
+            ones: *const u16,
+            ones_len: usize,
+            twos: *const u16,
+            twos_len: usize,
+            out: *mut u8,
+            out_len: usize,
+        ) -> BuildAnswer;
     }
 }
 
@@ -104,6 +122,26 @@ mod exported {
                 ones_len: usize,
                 twos: *const u16,
                 twos_len: usize,
+            );
+            pub fn belfrymist_settle(
+                answer: *mut BuildAnswer,
+                card: *const u8,
+                card_len: usize,
+                out: *mut u8,
+                out_len: usize,
+            );
+            pub fn belfrymist_settle_lists(
+                answer: *mut BuildAnswer,
+                kind: usize,
+                l: usize,
+                words: *const u32,
+                words_len: usize,
+                ones: *const u16,
+                ones_len: usize,
+                twos: *const u16,
+                twos_len: usize,
+                out: *mut u8,
+                out_len: usize,
             );
         }
     }
@@ -206,11 +244,54 @@ mod exported {
         );
         answer
     }
+
+    pub unsafe fn belfrymist_settle(
+        card: *const u8,
+        card_len: usize,
+        out: *mut u8,
+        out_len: usize,
+    ) -> BuildAnswer {
+        let mut answer = BuildAnswer::default();
+        placed::belfrymist_settle(&mut answer, card, card_len, out, out_len);
+        answer
+    }
+
+    // The arguments are those of the function as C declares it.
+    #[allow(clippy::too_many_arguments)]
+    pub unsafe fn belfrymist_settle_lists(
+        kind: usize,
+        l: usize,
+        words: *const u32,
+        words_len: usize,
+        ones: *const u16,
+        ones_len: usize,
+        twos: *const u16,
+        twos_len: usize,
+        out: *mut u8,
+        out_len: usize,
+    ) -> BuildAnswer {
+        let mut answer = BuildAnswer::default();
+        placed::belfrymist_settle_lists(
+            &mut answer,
+            kind,
+            l,
+            words,
+            words_len,
+            ones,
+            ones_len,
+            twos,
+            twos_len,
+            out,
+            out_len,
+        );
+        answer
+    }
 }
 
 use exported::{
     belfrymist_admit, belfrymist_build, belfrymist_companion, belfrymist_count,
-    belfrymist_count_lists, belfrymist_entry, belfrymist_fetch, belfrymist_step, belfrymist_write,
+    belfrymist_count_lists, belfrymist_entry, belfrymist_fetch, belfrymist_settle,
+    belfrymist_settle_lists, belfrymist_step, belfrymist_write,
 };
 
 /// Admits the card.
@@ -314,6 +395,38 @@ pub fn count_lists(
             ones.len(),
             twos.as_ptr(),
             twos.len(),
+        )
+    }
+}
+
+/// Settles the card, whose spans must be narrow.
+pub fn settle(card: &[u8], out: &mut [u8]) -> BuildAnswer {
+    // SAFETY: as for `build`.
+    unsafe { belfrymist_settle(card.as_ptr(), card.len(), out.as_mut_ptr(), out.len()) }
+}
+
+/// Settles the card of this kind and l whose entries stand in three lists.
+pub fn settle_lists(
+    kind: usize,
+    l: usize,
+    words: &[u32],
+    ones: &[u16],
+    twos: &[u16],
+    out: &mut [u8],
+) -> BuildAnswer {
+    // SAFETY: as for `write`.
+    unsafe {
+        belfrymist_settle_lists(
+            kind,
+            l,
+            words.as_ptr(),
+            words.len(),
+            ones.as_ptr(),
+            ones.len(),
+            twos.as_ptr(),
+            twos.len(),
+            out.as_mut_ptr(),
+            out.len(),
         )
     }
 }

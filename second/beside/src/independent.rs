@@ -6,6 +6,7 @@ use second::count::{self, Count};
 use second::entry::{Entry, Places};
 use second::reader::{self, Head};
 use second::refusal::Refusal;
+use second::settle;
 use second::verdict::Verdict;
 use second::walk::counted::Counted;
 use second::writer;
@@ -142,7 +143,24 @@ pub fn build_counted(card: &[u8], walk: &Counted, budget: u32, out: &mut [u8]) -
     built(build::build_by(card, out, |_, _| walk.within(budget)))
 }
 
-/// What a build answers.
+/// Settles the card, whose spans must be narrow.
+pub fn settle(card: &[u8], out: &mut [u8]) -> BuildAnswer {
+    built(settle::settle_card(card, out))
+}
+
+/// Settles the card of this kind and l whose entries stand in three lists.
+pub fn settle_lists(
+    kind: usize,
+    l: usize,
+    words: &[u32],
+    ones: &[u16],
+    twos: &[u16],
+    out: &mut [u8],
+) -> BuildAnswer {
+    built(settle::settle_lists(kind, l, words, ones, twos, out))
+}
+
+/// What a build answers, and a call that settles.
 fn built(answer: Result<Built, Refusal>) -> BuildAnswer {
     match answer {
         Ok(built) => BuildAnswer {

@@ -38,9 +38,18 @@ pub fn build_by(
     find: impl FnOnce(&Profile, &[Entry]) -> Found,
 ) -> Result<Built, Refusal> {
     let (profile, entries) = reader::entries(card)?;
+    build_into(out, &profile, || Ok(find(&profile, &entries)))
+}
+
+/// Tests 12, finds the builds of a card of this profile or refuses it, and puts the letters.
+pub fn build_into(
+    out: &mut [u8],
+    profile: &Profile,
+    find: impl FnOnce() -> Result<Found, Refusal>,
+) -> Result<Built, Refusal> {
     let room = out.get_mut(..profile.build_length());
     let room = room.ok_or(Reason::Room.at(0))?;
-    let found = find(&profile, &entries);
+    let found = find()?;
     let length = match found.verdict {
         Verdict::Sole | Verdict::Several => {
             room.copy_from_slice(&spell(profile.l, &found.words));

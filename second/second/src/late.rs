@@ -18,7 +18,12 @@ const LETTERS: usize = 2;
 
 /// The lists that are stored, with the placements that are stated of each.
 fn stored() -> Vec<(u32, Lists)> {
-    let lines = include_str!("late.txt").lines();
+    parsed(include_str!("late.txt"))
+}
+
+/// The lists of a text, with the placements that it states of each: a line of l and placements, then one for each entry.
+pub fn parsed(text: &str) -> Vec<(u32, Lists)> {
+    let lines = text.lines();
     let mut all: Vec<(u32, Lists)> = Vec::new();
     for line in lines.filter(|line| !line.starts_with('#')) {
         let numbers = line.split(' ').map(|word| word.parse::<u32>());
@@ -32,7 +37,7 @@ fn stored() -> Vec<(u32, Lists)> {
             (&[l, placements], _) => {
                 all.push((placements, Lists::empty(usize::from(SPAN), l as usize)));
             }
-            _ => panic!("a line of late.txt: {line}"),
+            _ => panic!("a line of stored lists: {line}"),
         }
     }
     all
@@ -70,7 +75,7 @@ impl Late {
 }
 
 /// The placements of lists that have one build.
-fn sole_after(lists: &Lists) -> Option<u32> {
+pub fn sole_after(lists: &Lists) -> Option<u32> {
     let (profile, entries) = lists.admitted().expect("sound lists");
     let found = Counted::new(profile.l, &entries).within(u32::MAX);
     (found.verdict == Verdict::Sole).then_some(found.placements)

@@ -1,8 +1,8 @@
 //! An independent reader and writer of spectrum cards, and builder of sequences from them.
 //!
-//! It is written from the scope document and request 12 alone. Tests and
-//! comparisons set it beside the proved code, so it shares nothing with that
-//! one and takes its own way through the same rules:
+//! It is written from the scope document and requests 11 and 12 alone. Tests
+//! and comparisons set it beside the proved code, so it shares nothing with
+//! that one and takes its own way through the same rules:
 //!
 //! * [`numbers`]: every number of the card, each in one place;
 //! * [`letters`]: the letters of words and builds;
@@ -17,10 +17,13 @@
 //! * [`verdict`]: what is found of the builds of a card;
 //! * [`walk`]: the walk on span cards, as the scope document words it;
 //! * [`pairs`]: the verdict on pair cards, by rings of choices;
+//! * [`layers`]: the verdict on cards of narrow spans, place by place;
 //! * [`build`]: building from a card;
+//! * [`settle`]: building from a card of narrow spans, or from its lists, with no budget;
 //! * [`count`]: how many builds a pair card has, from the card or from lists;
-//! * [`report`]: what the program `build` prints for a card, and the line of its count;
+//! * [`report`]: what the programs `build` and `settle` print for a card, and the line of its count;
 //! * [`arrangements`]: the builds of small cards, by trying every arrangement;
+//! * [`matching`]: whether words are a build, without a look at how it was found;
 //! * [`tables`]: the small tables of the scope document;
 //! * [`cards`]: sound and damaged cards for tests, drawn from a seed;
 //! * [`lists`]: sound and damaged lists for tests, drawn from a seed;
@@ -28,8 +31,10 @@
 //! * [`pair_lists`]: pair lists for tests of their verdict, drawn from a seed;
 //! * [`known_counts`]: pair lists whose number of builds is known, part by part;
 //! * [`neighbours`]: pair lists whose two places are neighbours, and the span lists that they become;
+//! * [`narrow`]: lists of narrow spans, drawn from a seed;
 //! * [`late`]: span lists with one build after a long walk, changed step by step;
-//! * [`for_builds`]: lists of either kind, rooms and budgets, drawn from a seed.
+//! * [`for_builds`]: lists of either kind, rooms and budgets, drawn from a seed;
+//! * [`stored`]: what programs that store calls share.
 
 pub mod arrangements;
 pub mod block;
@@ -44,8 +49,11 @@ pub mod for_builds;
 pub mod given;
 pub mod known_counts;
 pub mod late;
+pub mod layers;
 pub mod letters;
 pub mod lists;
+pub mod matching;
+pub mod narrow;
 pub mod neighbours;
 pub mod numbers;
 pub mod pair_lists;
@@ -54,7 +62,9 @@ pub mod profile;
 pub mod reader;
 pub mod refusal;
 pub mod report;
+pub mod settle;
 pub mod spans;
+pub mod stored;
 pub mod tables;
 pub mod verdict;
 pub mod walk;

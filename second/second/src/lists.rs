@@ -2,7 +2,7 @@
 //!
 //! Nothing here judges the lists: damage may by chance leave them sound.
 
-use crate::build;
+use crate::build::{self, Built};
 use crate::cards::{any_count, Draft, Random};
 use crate::count::{count_lists, Count};
 use crate::entry::{Entry, Stored};
@@ -13,6 +13,7 @@ use crate::numbers::{
 use crate::profile::{Kind, Profile};
 use crate::reader;
 use crate::refusal::Refusal;
+use crate::settle::settle_lists;
 use crate::verdict::Found;
 use crate::writer;
 
@@ -163,6 +164,12 @@ impl Lists {
     /// How many builds they have.
     pub fn count(&self) -> Result<Count, Refusal> {
         count_lists(self.kind, self.l, &self.words, &self.ones, &self.twos)
+    }
+
+    /// Settles them, where their spans are narrow.
+    pub fn settle(&self, out: &mut [u8]) -> Result<Built, Refusal> {
+        let Given { words, ones, twos } = self.given();
+        settle_lists(self.kind, self.l, words, ones, twos, out)
     }
 
     /// What is found of the builds of sound lists.

@@ -46,5 +46,9 @@ pub const FEWEST_ENTRIES: u16 = 1;
 pub const MOST_ENTRIES: u16 = 504;
 /// The most places that a span may hold.
 pub const SPAN_WIDTH: u16 = 8;
+/// The most places of a span that is narrow.
+pub const NARROW_WIDTH: u16 = 4;
+/// The most narrow spans over one place of a card that has a build: the entries of this place and of three on each side.
+pub const MOST_OVER: usize = 2 * NARROW_WIDTH as usize - 1;
 /// What stands for "no second place" on a pair card; it is never a place.
 pub const NO_PLACE: u16 = 65_535;

@@ -32,6 +32,8 @@ pub enum Reason {
     Lists = 13,
     /// There is no such block or entry.
     Absent = 14,
+    /// A span is wider than a narrow one may be.
+    Wider = 30,
 }
 
 impl Reason {

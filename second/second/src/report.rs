@@ -1,20 +1,23 @@
-//! What the program `build` prints for a card, and the line that says how many builds it has.
+//! What the programs `build` and `settle` print for a card, and the line that says how many builds it has.
 
-use crate::build::build;
+use crate::build::{build, Built};
 use crate::count::{count_card, Count};
 use crate::profile::Kind;
 use crate::reader;
 use crate::refusal::Refusal;
+use crate::settle::settle_card;
 
 /// The budget that `build` uses.
 pub const BUDGET: u32 = 1_000_000;
 
-/// The lines for a card, each ended by a newline; all of the input is the card.
+/// The lines of `build` for a card, each ended by a newline; all of the input is the card.
 pub fn report(card: &[u8]) -> String {
-    match admitted(card) {
-        Ok(lines) => lines,
-        Err(refusal) => refused(refusal),
-    }
+    lines(card, |out| build(card, BUDGET, out))
+}
+
+/// The lines of `settle` for a card, each ended by a newline; all of the input is the card.
+pub fn settled(card: &[u8]) -> String {
+    lines(card, |out| settle_card(card, out))
 }
 
 /// The line for the number of builds of a pair card, ended by a newline; all of the input is the card.
@@ -31,11 +34,22 @@ fn refused(refusal: Refusal) -> String {
     format!("refused {} {}\n", refusal.number(), refusal.place)
 }
 
-/// The two lines for a card that is admitted.
-fn admitted(card: &[u8]) -> Result<String, Refusal> {
+/// The lines for a card that this builds from.
+fn lines(card: &[u8], build: impl FnOnce(&mut [u8]) -> Result<Built, Refusal>) -> String {
+    match two_lines(card, build) {
+        Ok(lines) => lines,
+        Err(refusal) => refused(refusal),
+    }
+}
+
+/// The two lines for a card that is not refused.
+fn two_lines(
+    card: &[u8],
+    build: impl FnOnce(&mut [u8]) -> Result<Built, Refusal>,
+) -> Result<String, Refusal> {
     let profile = reader::admit(card)?;
     let mut out = vec![0; profile.build_length()];
-    let built = build(card, BUDGET, &mut out)?;
+    let built = build(&mut out)?;
     let mut second_line = built.verdict.name().to_string();
     if built.length > 0 {
         second_line.push(' ');

@@ -60,6 +60,11 @@ pub fn with_build(random: &mut Random, l: usize, m: usize, letters: usize, wide:
 /// Sound lists, as with a build, but with the words or the spans of a few entries drawn anew.
 pub fn perhaps_without(random: &mut Random, l: usize, m: usize, letters: usize) -> Lists {
     let wide = random.between(1, usize::from(SPAN_WIDTH));
+    disturbed(random, l, m, letters, wide)
+}
+
+/// The same in spans up to this width.
+pub fn disturbed(random: &mut Random, l: usize, m: usize, letters: usize, wide: usize) -> Lists {
     let mut lists = with_build(random, l, m, letters, wide);
     for _ in 0..random.between(1, 2) {
         let i = random.below(m);
@@ -89,12 +94,16 @@ pub fn misread(random: &mut Random, l: usize, m: usize, letters: usize) -> Vec<u
 }
 
 /// Lists that have no build, though every place but the last has many words to try.
-///
-/// The last word is of Ts alone, and no other word ends in T.
 pub fn without_end(random: &mut Random, l: usize, m: usize) -> Lists {
+    let words = words_without_end(random, l, m);
+    widest(random, l, &words)
+}
+
+/// Words of which the last is of Ts alone, and no other ends in T.
+pub fn words_without_end(random: &mut Random, l: usize, m: usize) -> Vec<u32> {
     let mut words = words_in(&sequence(random, l, m, 2), l);
     words[m - 1] = (1 << (2 * l)) - 1;
-    widest(random, l, &words)
+    words
 }
 
 /// Lists of few different words in wide spans, of which many have a walk that is long.

@@ -2,8 +2,6 @@
 -- nothing.
 use Prim.Native.Nat.{_-_}
 use native.Mathlib.Omega.{arith}
-use lib.ListN.{length}
-use borrow.Author.Needs.{needs}
 use Rattle.layering.specs.Settled.{Uncrowded}
 use Rattle.layering.proofs.SettleLaws.{crowding-found, uncrowded-none, uncrowded-more, crowding-none}
 use Rattle.layering.proofs.crowded.Statement.{statement}

@@ -1,23 +1,20 @@
--- `settle_laid` meets its contract: every state is kept (`all-kept`), and what is read off the table is the verdict by all builds. Assumes
+-- `settle_laid` meets its contract: the states that can be reached are kept, and what is read off the table is the verdict by all builds. Assumes
 -- nothing.
-use mathlib.Core.Path.{_≡_, refl, sym, _∙_}
+use mathlib.Core.Path.{refl}
 use native.Mathlib.Omega.{arith}
-use lib.ListN.{length}
 use borrow.Author.Needs.{needs}
 use Rattle.answers.proofs.Tests.{failed, passed}
-use Rattle.layering.specs.States.{Sides}
-use Rattle.layering.specs.Sweeping.{Half}
-use Rattle.layering.proofs.SettleLaws.{all-kept, known-first, none-settles, some-readable, sole-settles, several-settles}
+use Rattle.layering.proofs.SettleLaws.{known-first, none-settles, some-readable, sole-settles, several-settles}
 use Rattle.layering.proofs.settle_laid.Statement.{statement}
 use Rattle.layering.proofs.settle_laid.Tie as tie
 
 -- ---- places, from the last to the start
 
-abbrev start : tie.After-mark-all → tie.Start
-start c = c .before .before .before .before .before .before .before .before .before .before
+abbrev start : tie.After-keep → tie.Start
+start c = c .before .before .before .before .before .before .before .before .before .before .before
 
-abbrev kept : tie.After-sweep → tie.After-mark-all
-kept c = c .before .before .before .before .before
+abbrev kept : tie.After-sweep → tie.After-keep
+kept c = c .before .before .before .before .before .before .before
 
 abbrev swept : tie.After-completes → tie.After-sweep
 swept c = c .before .before .before .before .before .before .before
@@ -25,14 +22,14 @@ swept c = c .before .before .before .before .before .before .before
 abbrev asked : tie.After-read-off → tie.Else1
 asked c = c .before .before .before .before
 
-mark-all-requires : tie.Need-mark-all-requires
-mark-all-requires c κs = search needs
+keep-requires : tie.Need-keep-requires
+keep-requires c κs = let s = c .before .before .before .before .before .before .before .before .before .before in (s .pre .0, (s .pre .1 .0, s .pre .1 .1))
 
 sweep-requires : tie.Need-sweep-requires
 sweep-requires c κs =
-    let did = c .before .before .before .before in
+    let did = c .before .before .before .before .before .before in
     let s = start did in
-    ((s .pre .0, s .pre .1 .0), all-kept (s .pre .0) (s .pre .1 .1) (did .mark-all .ensures))
+    ((s .pre .0, omega (arith, s .pre .1 .0, c .before .before .before .before .before .marks .given)), did .keep .ensures)
 
 completes-requires : tie.Need-completes-requires
 completes-requires c κs =
@@ -98,7 +95,7 @@ pub settle-laid-spec : {M : Type 1} → statement M
 settle-laid-spec =
     tie.close
     (tie.spec
-    mark-all-requires
+    keep-requires
     sweep-requires
     completes-requires
     same-length

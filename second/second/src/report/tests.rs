@@ -90,6 +90,27 @@ fn a_walk_beyond_the_budget_of_the_program() {
 }
 
 #[test]
+fn the_lines_of_settle() {
+    let lines = [
+        "CARD span 2 4\nseveral ACAGA 0\n",
+        "CARD span 2 4\nsole ACAGA 0\n",
+        "CARD span 2 4\nnone 0\n",
+        "CARD span 2 3\nsole AAAA 0\n",
+        "CARD span 2 2\nnone 0\n",
+    ];
+    let wanted = ["refused 5 0\n"; 7].into_iter().chain(lines);
+    for (table, lines) in tables().iter().zip(wanted) {
+        let card = table.lists.card().expect("a sound table");
+        assert_eq!(settled(&card), lines, "{}", table.name);
+    }
+    assert_eq!(settled(&s1()[..511]), "refused 1 0\n");
+    assert_eq!(settled(&[s1(), s1()].concat()), "refused 9 0\n");
+    // The first entry has places 0 to 4, and is wider than 4.
+    let wide = without_an_end().card().expect("sound lists");
+    assert_eq!(settled(&wide), "refused 30 0\n");
+}
+
+#[test]
 fn the_line_of_the_number_of_builds() {
     let wanted = [
         "builds 2^1\n",

@@ -4,7 +4,6 @@ use mathlib.Core.Path.{_≡_, refl, sym, ap, _∙_}
 use Prim.Native.Nat.{_+_, _-_, _≤_, _<_}
 use native.Mathlib.Omega.{arith}
 use lib.ListN.{length, getD}
-use borrow.Author.Needs.{needs}
 use Rattle.walk.proofs.PlaceLaws.{list-rises, list-ends, list-lent, list-below}
 use Rattle.layering.specs.States.{duesIn}
 use Rattle.layering.specs.Stepping.{Trials}

@@ -4,7 +4,6 @@ use mathlib.Core.Path.{_≡_, refl}
 use Prim.Native.Nat.{_+_, _-_, _≤_, _<_}
 use native.Mathlib.Omega.{arith}
 use lib.ListN.{length, getD, take, drop}
-use borrow.Author.Needs.{needs}
 use Rattle.layers.specs.Narrow.{mostOver}
 use Rattle.walk.proofs.PlaceLaws.{list-rises, list-ends, list-below}
 use Rattle.layering.proofs.StateLaws.{list-long, list-few, cell-completes, completes-all}

@@ -1,9 +1,9 @@
 -- `dues` meets its contract: the loop keeps how many are due from k on, and k rises. Assumes nothing.
-use mathlib.Core.Path.{_≡_, refl, sym, _∙_}
+use mathlib.Core.Path.{refl, sym, _∙_}
 use mathlib.Core.Logic.{⊎-elim}
-use Prim.Native.Nat.{_+_, _-_, _≤_, _<_}
+use Prim.Native.Nat.{_-_, _<_}
 use native.Mathlib.Omega.{arith}
-use lib.ListN.{length, getD, drop}
+use lib.ListN.{length, getD}
 use borrow.Author.Needs.{needs}
 use Rattle.sequence.proofs.FillingLaws.{getD-in}
 use Rattle.layering.proofs.StateLaws.{Counting, counting-none, counting-turn, counting-all}

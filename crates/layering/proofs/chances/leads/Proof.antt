@@ -1,6 +1,5 @@
 -- `leads` meets its contract: the state after the entry that is tried is known (`placing-known`), and its mark is taken away again.
 -- Assumes nothing.
-use mathlib.Core.Path.{_≡_, sym, ap, _∙_}
 use Prim.Native.Nat.{_<_}
 use native.Mathlib.Omega.{arith}
 use lib.ListN.{length, length-set}

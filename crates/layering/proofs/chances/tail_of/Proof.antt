@@ -1,6 +1,5 @@
 -- `tail_of` meets its contract, by `mask-tail`. Assumes nothing.
-use mathlib.Core.Path.{_≡_}
-use Prim.Native.Nat.{_+_, _-_, _^_}
+use Prim.Native.Nat.{_-_}
 use native.Mathlib.Omega.{arith}
 use borrow.Author.Needs.{needs}
 use Rattle.sequence.proofs.LetterLaws.{pow-pos, mask-tail}

@@ -1,6 +1,4 @@
 -- `is_picked` meets its contract, by its one test. Assumes nothing.
-use mathlib.Core.Path.{_∙_, sym, ap}
-use mathlib.Core.Bool.{_&&_}
 use borrow.Author.Tests.{eq-eqb, ne-eqb}
 use borrow.Author.Needs.{needs}
 use Rattle.layering.proofs.digits.is_picked.Statement.{statement}

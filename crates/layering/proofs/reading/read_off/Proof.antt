@@ -1,8 +1,7 @@
 -- `read_off` meets its contract: one word more is read in each turn (`Reading`). What falls is how many places are left. Assumes nothing.
-use mathlib.Core.Path.{_≡_, refl, ap, _∙_}
-use Prim.Native.Nat.{_+_, _-_, _<_}
+use Prim.Native.Nat.{_-_, _<_}
 use native.Mathlib.Omega.{arith}
-use lib.ListN.{length, length-set}
+use lib.ListN.{length}
 use borrow.Author.Needs.{needs}
 use Rattle.layering.specs.Reading.{Readable}
 use Rattle.layering.proofs.PlaceLaws.{tried-here}

@@ -1,6 +1,6 @@
 -- `sweep` meets its contract: one place more is swept in each turn. Assumes nothing.
 use mathlib.Core.Path.{_≡_, refl}
-use Prim.Native.Nat.{_+_, _-_, _≤_}
+use Prim.Native.Nat.{_≤_}
 use native.Mathlib.Omega.{arith}
 use lib.ListN.{length}
 use borrow.Author.Needs.{needs}
@@ -21,10 +21,10 @@ abbrev μ-loop : tie.MeasureT-loop
 
 -- ---- places, from the last to the start
 
-abbrev start : tie.After-mark-all Inv-loop μ-loop → tie.Start Inv-loop μ-loop
+abbrev start : tie.After-fill Inv-loop μ-loop → tie.Start Inv-loop μ-loop
 start c = c .before .before .before .before .before .before .before .before .before
 
-abbrev marked : tie.At-loop Inv-loop μ-loop → tie.After-mark-all Inv-loop μ-loop
+abbrev marked : tie.At-loop Inv-loop μ-loop → tie.After-fill Inv-loop μ-loop
 marked c = c .before .before .before
 
 abbrev swept : tie.After-slice-known5 Inv-loop μ-loop → tie.After-sweep-place Inv-loop μ-loop
@@ -33,13 +33,13 @@ swept c = c .before .before .before .before
 abbrev turn : tie.After-sweep-place Inv-loop μ-loop → tie.In-loop Inv-loop μ-loop
 turn c = c .before .before .before
 
-mark-all-requires : tie.Need-mark-all-requires Inv-loop μ-loop
-mark-all-requires c κs = search needs
+fill-requires : tie.Need-fill-requires Inv-loop μ-loop
+fill-requires c κs = search needs
 
 loop-holds : tie.Need-loop-holds Inv-loop μ-loop
 loop-holds c =
     let did = c .before .before in
-    ((sides-marked (start did .pre .0 .0) (start did .pre .0 .1) (did .mark-all .ensures), start did .pre .1), omega arith, refl, refl)
+    ((sides-marked (start did .pre .0 .0) (start did .pre .0 .1) (did .fill .ensures), start did .pre .1), omega arith, refl, refl)
 
 sub-i : tie.Need-sub-i Inv-loop μ-loop
 sub-i c = search needs
@@ -77,7 +77,7 @@ sweep-spec =
     (tie.spec
     Inv-loop
     μ-loop
-    mark-all-requires
+    fill-requires
     loop-holds
     sub-i
     sweep-place-requires

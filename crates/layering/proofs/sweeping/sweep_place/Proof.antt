@@ -1,17 +1,16 @@
 -- `sweep_place` meets its contract: from the last set of its entries to the first one state more is swept in each turn (`Sweeping`), and then
 -- its entries are left. Assumes nothing.
 use mathlib.Core.Path.{_≡_, refl, ap}
-use Prim.Native.Nat.{_+_, _-_, _^_, _≤_, _<_}
+use Prim.Native.Nat.{_+_, _-_, _^_, _≤_}
 use native.Mathlib.Omega.{arith}
 use lib.ListN.{length, getD, take, drop}
-use lib.Pow.{pow-pos}
 use borrow.Author.Needs.{needs}
 use Rattle.layers.specs.Narrow.{mostOver}
 use Rattle.tables.specs.Prepared.{listAt}
-use Rattle.walk.proofs.PlaceLaws.{list-rises, list-ends, list-lent}
+use Rattle.walk.proofs.PlaceLaws.{list-rises, list-ends, list-lent, list-below}
 use Rattle.layering.specs.Sweeping.{Sweeping}
 use Rattle.layering.proofs.StateLaws.{list-few}
-use Rattle.layering.proofs.SideLaws.{sides-back, sides-cleared, spread-asks}
+use Rattle.layering.proofs.SideLaws.{sides-back, sides-cleared}
 use Rattle.layering.proofs.SweepLaws.{half-next, half-done}
 use Rattle.layering.proofs.sweeping.sweep_place.Statement.{statement}
 use Rattle.layering.proofs.sweeping.sweep_place.Tie as tie
@@ -121,24 +120,24 @@ loop-again c =
     let inv = head at .loop .inv in
     (swept c .sweep-state .ensures, omega (arith, inv .1), omega (arith, c .before .before .before .marks .given, inv .2), omega (arith, c .before .table .given, inv .3))
 
-mul-spread : tie.Need-mul-spread Inv-loop μ-loop
-mul-spread c = let at = bounds (done c .before) in omega (arith, rises at, ends at, begin at .good)
+mul-mark-list : tie.Need-mul-mark-list Inv-loop μ-loop
+mul-mark-list c = let at = bounds (done c .before) in omega (arith, rises at, ends at, begin at .good)
 
-sub-spread : tie.Need-sub-spread Inv-loop μ-loop
-sub-spread c = rises (bounds (done c .before))
+sub-mark-list : tie.Need-sub-mark-list Inv-loop μ-loop
+sub-mark-list c = rises (bounds (done c .before))
 
-part-spread-start : tie.Need-part-spread-start Inv-loop μ-loop
-part-spread-start c = rises (bounds (done c .before))
+part-mark-list-start : tie.Need-part-mark-list-start Inv-loop μ-loop
+part-mark-list-start c = rises (bounds (done c .before))
 
-part-spread-end : tie.Need-part-spread-end Inv-loop μ-loop
-part-spread-end c = ends (bounds (done c .before))
+part-mark-list-end : tie.Need-part-mark-list-end Inv-loop μ-loop
+part-mark-list-end c = ends (bounds (done c .before))
 
-spread-requires : tie.Need-spread-requires Inv-loop μ-loop
-spread-requires c κs =
+mark-list-requires : tie.Need-mark-list-requires Inv-loop μ-loop
+mark-list-requires c κs =
     let out = done (c .before .before) in
     let at = bounds (out .before) in
     let inv = out .loop .inv in
-    spread-asks (inv .0 .laid) (inv .0 .inside) (lo-is at) (end-is at) (inv .0 .sides .marks-all) (pow-pos _)
+    list-below (inv .0 .laid .prepared) (inv .0 .inside) (lo-is at) (end-is at) (inv .0 .sides .marks-all)
 
 same-length : tie.Need-same-length Inv-loop μ-loop
 same-length c = omega (arith, c .before .marks2 .given, end-of c .loop .inv .2)
@@ -151,7 +150,7 @@ returns c =
     let out = end-of c in
     let at = bounds (out .before) in
     let inv = out .loop .inv in (
-      sides-cleared (inv .0 .laid) (inv .0 .inside) (inv .0 .sides) (rw (lent at) at (c .before .before .spread .ensures)) refl,
+      sides-cleared (inv .0 .laid) (inv .0 .inside) (inv .0 .sides) (rw (lent at) at (c .before .before .mark-list .ensures)) (omega arith) refl,
       half-done (inv .0 .half) (omega (arith, out-test c .loop-test .left)),
     )
 
@@ -171,11 +170,11 @@ sweep-place-spec =
     sweep-state-requires
     loop-less
     loop-again
-    mul-spread
-    sub-spread
-    part-spread-start
-    part-spread-end
-    spread-requires
+    mul-mark-list
+    sub-mark-list
+    part-mark-list-start
+    part-mark-list-end
+    mark-list-requires
     same-length
     same-length-2
     returns)

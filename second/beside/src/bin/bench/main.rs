@@ -1,11 +1,12 @@
-//! Times the compiled library beside the second implementation, its counts beside its builds, its walk
-//! beside the one in plain C, and, on x86-64, the program `build` beside the program `report` of `second`:
-//! one table of ratios.
+//! Times the compiled library beside the second implementation, its counts and what it settles beside its
+//! builds, its walk beside the one in plain C, and, on x86-64, the program `build` beside the program
+//! `report` of `second`: one table of ratios.
 
 mod counting;
 mod pairing;
 mod reading;
 mod running;
+mod settling;
 mod timing;
 mod walking;
 
@@ -25,12 +26,14 @@ fn run() -> Result<(), String> {
     let cards = reading::samples(&mut random);
     let pairs = pairing::samples(&mut random);
     let walks = walking::samples(&mut random);
+    let narrow = settling::samples(&mut random);
     let runs = running::samples(&mut random);
 
     let mut operations = reading::operations(&cards)?;
     operations.extend(pairing::operations(&pairs)?);
     operations.extend(counting::operations(&pairs)?);
     operations.extend(walking::operations(&walks)?);
+    operations.extend(settling::operations(&narrow)?);
     // The program is x86-64 code: elsewhere an emulator's time would be set beside the processor's own.
     if cfg!(target_arch = "x86_64") {
         operations.extend(running::operations(&programs, &runs)?);

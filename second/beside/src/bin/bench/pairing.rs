@@ -25,7 +25,7 @@ pub const ROOM: usize = MOST_ENTRIES as usize + MOST_LETTERS as usize - 1;
 pub const BUDGET: u32 = 0;
 
 /// A sort of cards: its name, and how one of so many entries is drawn.
-type Sort = (&'static str, fn(&mut Random, usize) -> Lists);
+pub type Sort = (&'static str, fn(&mut Random, usize) -> Lists);
 
 /// Cards of one sort and one number of entries.
 pub struct Sample {
@@ -35,7 +35,7 @@ pub struct Sample {
     pub cards: Vec<Vec<u8>>,
 }
 
-/// The cards that are timed, each sort with each number of entries.
+/// The pair cards that are timed.
 pub fn samples(random: &mut Random) -> Vec<Sample> {
     let sorts: [Sort; 5] = [
         ("random", at_random),
@@ -48,6 +48,11 @@ pub fn samples(random: &mut Random) -> Vec<Sample> {
         }),
         ("beside two long rings", |_, m| beside_two_rings(m)),
     ];
+    drawn(random, &sorts)
+}
+
+/// Cards of each sort with each number of entries.
+pub fn drawn(random: &mut Random, sorts: &[Sort]) -> Vec<Sample> {
     let mut samples = Vec::new();
     for (sort, draw) in sorts {
         for m in COUNTS {

@@ -11,6 +11,7 @@ use second::verdict::{Found, Verdict};
 use second::walk::counted::Counted;
 
 use crate::lent::Lent;
+use crate::tally::Operation;
 use crate::{card_changed, difference, hex, output_differs, Soak};
 
 /// The largest budget that is tried, where `second` walks, on a card which it does not settle.
@@ -20,8 +21,8 @@ const COSTLY: u32 = 1000;
 
 /// What the library said in a call, which was compared with `second`.
 pub struct Said {
-    answer: BuildAnswer,
-    out: Lent<u8>,
+    pub answer: BuildAnswer,
+    pub out: Lent<u8>,
 }
 
 impl Said {
@@ -45,17 +46,28 @@ impl Soak {
 
     /// Makes building calls on the card of span lists whose walk may be long: `second` counts it instead.
     pub fn build_long(&mut self, random: &mut Random, lists: &Lists) -> Result<(), String> {
-        let (profile, entries) = lists.admitted().expect("sound lists");
-        let walk = Counted::new(profile.l, &entries);
+        let walk = counted(lists);
         let card = Lent::new(random, &lists.card().expect("sound lists"));
         for budget in long_budgets(random, &walk) {
-            let room = enough(random, profile.build_length());
-            let counted = |card: &[u8], budget, out: &mut [u8]| {
-                independent::build_counted(card, &walk, budget, out)
-            };
-            self.build_once(random, &card, budget, room, counted)?;
+            self.build_counted(random, &card, budget, &walk)?;
         }
         Ok(())
+    }
+
+    /// Makes one building call with room on a sound span card whose walk was counted.
+    pub fn build_counted(
+        &mut self,
+        random: &mut Random,
+        card: &Lent<u8>,
+        budget: u32,
+        walk: &Counted,
+    ) -> Result<Option<Said>, String> {
+        let profile = reader::admit(card.wanted()).expect("a sound card");
+        let room = enough(random, profile.build_length());
+        let by_second = |card: &[u8], budget, out: &mut [u8]| {
+            independent::build_counted(card, walk, budget, out)
+        };
+        self.build_once(random, card, budget, room, by_second)
     }
 
     /// Makes one call on both sides and describes a difference, if there is one; after the last call it makes none.
@@ -73,7 +85,7 @@ impl Soak {
         let mut out = Lent::drawn(random, room);
         let library = firmware::build(card.elements(), budget, out.elements_mut());
         let second = by_second(card.wanted(), budget, out.wanted_mut());
-        self.tally.count_build(&second);
+        self.tally.count_build(Operation::Build, &second);
         let differs = difference(library, second)
             .or_else(|| output_differs(&out))
             .or_else(|| card_changed(card));
@@ -90,6 +102,12 @@ impl Soak {
             )),
         }
     }
+}
+
+/// The walk over sound span lists, counted.
+pub fn counted(lists: &Lists) -> Counted {
+    let (profile, entries) = lists.admitted().expect("sound lists");
+    Counted::new(profile.l, &entries)
 }
 
 /// The budgets and rooms that a card is built with.

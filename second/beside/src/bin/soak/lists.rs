@@ -2,7 +2,7 @@
 
 use std::fmt::Debug;
 
-use beside::answers::{CountAnswer, WriteAnswer};
+use beside::answers::{BuildAnswer, CountAnswer, WriteAnswer};
 use beside::firmware;
 use second::cards::Random;
 use second::lists::Lists;
@@ -50,6 +50,18 @@ impl LentLists {
             self.words.elements(),
             self.ones.elements(),
             self.twos.elements(),
+        )
+    }
+
+    /// Has the library settle them.
+    pub fn settle(&self, out: &mut [u8]) -> BuildAnswer {
+        firmware::settle_lists(
+            self.kind,
+            self.l,
+            self.words.elements(),
+            self.ones.elements(),
+            self.twos.elements(),
+            out,
         )
     }
 

@@ -5,6 +5,7 @@
 //! status 1. At the end it says how often each answer came, so that a run that
 //! tried nothing can be told from one that did.
 
+mod alike;
 mod building;
 mod counting;
 mod inputs;
@@ -12,6 +13,7 @@ mod lent;
 mod lists;
 mod neighbours;
 mod reading;
+mod settling;
 mod tally;
 mod writing;
 
@@ -22,10 +24,10 @@ use second::cards::{any_card, Random};
 use second::late::Late;
 use second::spans::any_long;
 
+use alike::Alike;
 use inputs::{any_buildable_card, damaged};
 use lent::Lent;
-use neighbours::Neighbours;
-use tally::Tally;
+use tally::{Tally, SETTLED, VERDICTS};
 
 /// The seed where none is given.
 const SEED: u64 = 1;
@@ -35,7 +37,7 @@ const COPIES: usize = 2;
 const LONG_TURNS: usize = 18;
 /// The steps that lists are changed by before each of these turns.
 const STEPS: usize = 16;
-/// From so many calls on, no answer of a build or of a count may be missing.
+/// From so many calls on, no answer of a build, of a count or of settling may be missing.
 const ENOUGH: u64 = 100_000;
 /// From so many calls on, none may be missing after a long walk.
 const ENOUGH_LONG: u64 = 400_000;
@@ -45,7 +47,9 @@ struct Soak {
     wanted: u64,
     tally: Tally,
     /// Builds from span cards beside those from their pair cards.
-    neighbours: Neighbours,
+    neighbours: Alike,
+    /// Builds from narrow cards beside what settling them comes to.
+    narrow: Alike,
     /// Lists with one build after a long walk, which change from turn to turn.
     late: Late,
 }
@@ -79,6 +83,9 @@ impl Soak {
             if random.once_in(2) {
                 self.build_neighbours(random)?;
             }
+            if random.once_in(2) {
+                self.settle_narrow(random)?;
+            }
             if random.once_in(LONG_TURNS) {
                 self.walk_long(random)?;
             }
@@ -105,15 +112,24 @@ impl Soak {
         let lent = Lent::new(random, card);
         self.build(random, &lent)?;
         self.count(&lent)?;
+        self.settle(random, &lent)?;
         self.read(random, &lent)?;
         self.round(random, &lent)
     }
 
     /// Says how often each answer came, and what a long run should not be without.
     fn report(&self) -> Result<(), String> {
-        print!("{}{}", self.tally.lines(), self.neighbours.line());
+        let (neighbours, narrow) = (&self.neighbours, &self.narrow);
+        print!(
+            "{}{}{}",
+            self.tally.lines(),
+            neighbours.line(),
+            narrow.line()
+        );
         let calls = self.tally.calls();
-        let missing = self.tally.missing().or_else(|| self.neighbours.missing());
+        let missing = self.tally.missing();
+        let missing = missing.or_else(|| neighbours.missing());
+        let missing = missing.or_else(|| narrow.missing());
         let missing = missing.filter(|_| calls >= ENOUGH);
         let short = self.tally.missing_long().filter(|_| calls >= ENOUGH_LONG);
         match missing.or(short) {
@@ -176,7 +192,8 @@ fn main() -> ExitCode {
     let mut soak = Soak {
         wanted,
         tally: Tally::default(),
-        neighbours: Neighbours::default(),
+        neighbours: Alike::new("Neighbours", ["pairs", "spans"], SETTLED),
+        narrow: Alike::new("Narrow", ["settle", "build"], VERDICTS.len()),
         late: Late::new(&mut random),
     };
     if let Err(what) = soak.run(&mut random) {

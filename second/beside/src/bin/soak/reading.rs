@@ -72,7 +72,8 @@ impl Soak {
             self.read_once(&lent, Operation::Companion, k)?;
             self.read_once(&lent, Operation::Fetch, k)?;
         }
-        self.count(&lent)
+        self.count(&lent)?;
+        self.settle(random, &lent)
     }
 }
 

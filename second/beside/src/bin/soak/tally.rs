@@ -10,6 +10,8 @@ pub enum Operation {
     Build,
     Count,
     CountLists,
+    Settle,
+    SettleLists,
     Admit,
     Entry,
     Step,
@@ -19,10 +21,12 @@ pub enum Operation {
 }
 
 /// All of them, in the order of their lines.
-const OPERATIONS: [Operation; 9] = [
+const OPERATIONS: [Operation; 11] = [
     Operation::Build,
     Operation::Count,
     Operation::CountLists,
+    Operation::Settle,
+    Operation::SettleLists,
     Operation::Admit,
     Operation::Entry,
     Operation::Step,
@@ -32,14 +36,20 @@ const OPERATIONS: [Operation; 9] = [
 ];
 /// The names of the verdicts, from number 1 on.
 pub const VERDICTS: [&str; 4] = ["sole", "several", "none", "unsettled"];
+/// The verdicts that settle, which are the first of all.
+pub const SETTLED: usize = 3;
 /// The refusals have numbers from 1 up to this one.
-const LAST_REFUSAL: usize = 14;
+const LAST_REFUSAL: usize = 30;
 /// The refusals that a build has.
 const OF_BUILD: [usize; 12] = [1, 2, 3, 4, 5, 6, 7, 8, 9, 10, 11, 12];
 /// The refusals that a count from a card has.
 const OF_COUNT: [usize; 11] = [1, 2, 3, 4, 5, 6, 7, 8, 9, 10, 11];
 /// The refusals that a count from lists has.
 const OF_LISTS: [usize; 6] = [5, 6, 7, 10, 11, 13];
+/// The refusals that settling a card has.
+const OF_SETTLE: [usize; 13] = [1, 2, 3, 4, 5, 6, 7, 8, 9, 10, 11, 12, 30];
+/// The refusals that settling lists has.
+const OF_SETTLE_LISTS: [usize; 8] = [5, 6, 7, 10, 11, 12, 13, 30];
 /// What a count says that is not refused: no build, 2^0 builds, or 2 to a higher power.
 const COUNTS: [&str; 3] = ["none", "one build", "more"];
 /// A walk of more placements is long.
@@ -53,8 +63,10 @@ pub struct Tally {
     calls: u64,
     /// For each operation the answers that are no refusal, at 0, then the refusals by number.
     answers: [[u64; LAST_REFUSAL + 1]; OPERATIONS.len()],
-    /// The verdicts of builds, from number 1 on.
-    verdicts: [u64; VERDICTS.len()],
+    /// For each operation its verdicts, from number 1 on; nothing for those that do not build.
+    verdicts: [[u64; VERDICTS.len()]; OPERATIONS.len()],
+    /// For each operation the refusals of a pair card that is sound; nothing for those that take pair cards.
+    pairs: [u64; OPERATIONS.len()],
     /// For each operation what its counts said; nothing for those that do not count.
     counts: [[u64; COUNTS.len()]; OPERATIONS.len()],
     /// For each operation the highest exponent of its counts.
@@ -79,14 +91,14 @@ impl Tally {
         self.answers[operation as usize][number] += 1;
     }
 
-    /// Counts a build and its answer.
-    pub fn count_build(&mut self, answer: &BuildAnswer) {
-        self.count(Operation::Build, answer.number);
-        // The number of a verdict is 0 where the build was refused.
+    /// Counts a build, or a call that settles, and its answer.
+    pub fn count_build(&mut self, operation: Operation, answer: &BuildAnswer) {
+        self.count(operation, answer.number);
+        // The number of a verdict is 0 where the call was refused.
         let Some(verdict) = answer.verdict.checked_sub(1) else {
             return;
         };
-        self.verdicts[verdict] += 1;
+        self.verdicts[operation as usize][verdict] += 1;
         self.placements += answer.placements as u64;
         if answer.placements > LONG {
             self.long[verdict] += 1;
@@ -94,6 +106,11 @@ impl Tally {
         if VERDICTS[verdict] != "unsettled" {
             self.longest = self.longest.max(answer.placements);
         }
+    }
+
+    /// Counts a sound pair card that was refused because it is one, or the lists of one.
+    pub fn count_pairs(&mut self, operation: Operation) {
+        self.pairs[operation as usize] += 1;
     }
 
     /// Counts a count of builds, from a card or from lists, and its answer.
@@ -107,10 +124,9 @@ impl Tally {
         }
     }
 
-    /// An answer of a build or of a count that never came, if there is one.
+    /// An answer of a build, of a count or of settling that never came, if there is one.
     pub fn missing(&self) -> Option<String> {
-        let verdict = never(&VERDICTS, &self.verdicts).map(|name| format!("no build was {name}"));
-        verdict
+        self.missing_verdict(Operation::Build, VERDICTS.len())
             .or_else(|| self.missing_refusal(Operation::Build, &OF_BUILD))
             .or_else(|| self.missing_count(Operation::Count))
             .or_else(|| self.missing_power(Operation::Count))
@@ -118,6 +134,22 @@ impl Tally {
             .or_else(|| self.missing_count(Operation::CountLists))
             .or_else(|| self.missing_power(Operation::CountLists))
             .or_else(|| self.missing_refusal(Operation::CountLists, &OF_LISTS))
+            .or_else(|| self.missing_settle(Operation::Settle, &OF_SETTLE))
+            .or_else(|| self.missing_settle(Operation::SettleLists, &OF_SETTLE_LISTS))
+    }
+
+    /// What this operation, which settles, never answered, if there is such an answer; it has these refusals.
+    fn missing_settle(&self, operation: Operation, numbers: &[usize]) -> Option<String> {
+        let no_pairs = self.pairs[operation as usize] == 0;
+        self.missing_verdict(operation, SETTLED)
+            .or_else(|| self.missing_refusal(operation, numbers))
+            .or_else(|| no_pairs.then(|| format!("no {operation:?} was refused for its pairs")))
+    }
+
+    /// One of the first verdicts, as many as this says, that the operation never gave, if there is one.
+    fn missing_verdict(&self, operation: Operation, verdicts: usize) -> Option<String> {
+        let name = never(&VERDICTS[..verdicts], &self.verdicts[operation as usize])?;
+        Some(format!("no {operation:?} was {name}"))
     }
 
     /// What this operation, which counts, never said, if there is such an answer.
@@ -153,7 +185,10 @@ impl Tally {
             let calls: u64 = answers.iter().sum();
             _ = write!(text, "{operation:?} {calls}:");
             match operation {
-                Operation::Build => text.push_str(&self.verdicts_came()),
+                Operation::Build => text.push_str(&self.builds_came()),
+                Operation::Settle | Operation::SettleLists => {
+                    text.push_str(&self.settles_came(*operation));
+                }
                 Operation::Count | Operation::CountLists => {
                     text.push_str(&self.counts_came(*operation));
                 }
@@ -169,10 +204,22 @@ impl Tally {
         text
     }
 
-    /// How often each verdict came, and the placements.
-    fn verdicts_came(&self) -> String {
+    /// How often this operation, which settles, gave each verdict, and how often it was given pairs.
+    fn settles_came(&self, operation: Operation) -> String {
         let mut text = String::new();
-        let counts = self.verdicts.iter().zip(self.long);
+        let counts = self.verdicts[operation as usize];
+        for (name, count) in VERDICTS.iter().zip(counts).take(SETTLED) {
+            _ = write!(text, " {name} {count},");
+        }
+        _ = write!(text, " pairs {},", self.pairs[operation as usize]);
+        text
+    }
+
+    /// How often each verdict came from builds, and the placements.
+    fn builds_came(&self) -> String {
+        let mut text = String::new();
+        let counts = self.verdicts[Operation::Build as usize];
+        let counts = counts.iter().zip(self.long);
         for (name, (count, long)) in VERDICTS.iter().zip(counts) {
             _ = write!(text, " {name} {count} ({long} long),");
         }

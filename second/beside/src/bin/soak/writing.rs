@@ -90,8 +90,7 @@ impl Soak {
                 long.push(stored);
             }
             let room = sound.size();
-            self.write_lists(random, &long, room)?;
-            self.count_lists(random, &long)?;
+            self.on_long_lists(random, &long, room)?;
             for list in 0..3 {
                 let mut lists = sound.clone();
                 match list {
@@ -99,14 +98,24 @@ impl Soak {
                     1 => lists.ones.clone_from(&long.ones),
                     _ => lists.twos.clone_from(&long.twos),
                 }
-                self.write_lists(random, &lists, room)?;
-                self.count_lists(random, &lists)?;
+                self.on_long_lists(random, &lists, room)?;
             }
             long.resize(BEYOND, BEYOND, BEYOND);
-            self.write_lists(random, &long, room)?;
-            self.count_lists(random, &long)?;
+            self.on_long_lists(random, &long, room)?;
         }
         Ok(())
+    }
+
+    /// Makes each call that takes lists once on these.
+    fn on_long_lists(
+        &mut self,
+        random: &mut Random,
+        lists: &Lists,
+        room: usize,
+    ) -> Result<(), String> {
+        self.write_lists(random, lists, room)?;
+        self.count_lists(random, lists)?;
+        self.settle_lists(random, lists, room)
     }
 }
 

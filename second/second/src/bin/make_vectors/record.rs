@@ -9,10 +9,11 @@ use second::lists::{Lists, LONGEST_LIST};
 use second::profile::Profile;
 use second::reader::{self, Head};
 use second::refusal::Refusal;
+use second::stored::{hash, refusal_words};
 use second::verdict::Verdict;
 
-pub use building::{LONGEST_OUTPUT, MOST_PLACEMENTS};
-pub use writing::{BYTE_BEFORE, LONGEST_ROOM};
+pub use building::MOST_PLACEMENTS;
+pub use writing::LONGEST_ROOM;
 
 /// The most bytes that a card of the vectors may have.
 const LONGEST_CARD: usize = 6144;
@@ -234,14 +235,4 @@ fn entry_words(entry: Entry) -> String {
         Places::Two(one, two) => format!("{word} two {one} {two}"),
         Places::Span(first, last) => format!("{word} span {first} {last}"),
     }
-}
-
-/// The refusal's number and place.
-fn refusal_words(refusal: Refusal) -> String {
-    format!("refused {} {}", refusal.number(), refusal.place)
-}
-
-/// A number that stands for a list of numbers, so that the lines stay short.
-fn hash(elements: impl Iterator<Item = u64>) -> u64 {
-    elements.fold(1, |h, element| (h * 257 + element) % 65_521)
 }

@@ -28,7 +28,7 @@ fn hold_refused(lists: &Lists, refusal: Refusal) {
 ///
 /// The expected refusal is the reader's own, by which a count goes too: that
 /// it is the right one is for the tests of the reader, and for the cards below
-/// and of `make_counts` whose refusal is stated.
+/// and of `make_calls` whose refusal is stated.
 #[test]
 fn every_refusal_of_the_reader() {
     let mut random = Random::new(51);
@@ -52,7 +52,7 @@ fn every_refusal_of_the_reader() {
 ///
 /// The expected refusal is the writer's own, and both share the tests of
 /// lists: that it is the right one is for the tests of the writer, and for the
-/// lists below and of `make_counts` whose refusal is stated.
+/// lists below and of `make_calls` whose refusal is stated.
 #[test]
 fn every_refusal_of_the_lists() {
     let mut random = Random::new(52);

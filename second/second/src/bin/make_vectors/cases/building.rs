@@ -2,22 +2,18 @@
 
 mod any;
 mod edges;
-mod matching;
 mod refused;
 mod rooms;
 mod tables;
 
 use second::arrangements::builds;
-use second::build::Built;
-use second::letters::codes;
 use second::lists::Lists;
+use second::matching::is_build;
 use second::numbers::PAIR;
-use second::spans::words_in;
+use second::stored::{is_untouched, read};
 use second::verdict::{Found, Verdict};
 
-use super::writing::is_untouched;
 use super::Cases;
-use matching::is_build;
 
 /// The most entries of a pair card whose arrangements are all tried.
 const SMALL_PAIRS: usize = 12;
@@ -81,20 +77,6 @@ impl Cases {
     pub(super) fn any_small_or_large(&mut self) -> u32 {
         self.random.pick(&[0, 1, 1000, u32::MAX])
     }
-}
-
-/// What was found, with the words read from the letters of the output.
-fn read(lists: &Lists, built: Built, out: &[u8]) -> Found {
-    let length = match built.verdict {
-        Verdict::Sole | Verdict::Several => lists.build_length(),
-        Verdict::None | Verdict::Unsettled => 0,
-    };
-    assert_eq!(built.length, length, "the length of {lists:?}");
-    let (letters, later) = out.split_at(length);
-    assert!(is_untouched(later), "a byte after the build is touched");
-    let codes = codes(letters).expect("a build of letters alone");
-    let words = words_in(&codes, lists.l);
-    Found::new(built.verdict, built.placements, &words)
 }
 
 /// Holds what was found of sound lists to what must be so of any.

@@ -8,10 +8,11 @@ use second::entry::Stored;
 use second::lists::{any_room, Lists};
 use second::numbers::{BLOCK, NO_PLACE};
 use second::profile::Kind;
+use second::stored::is_untouched;
 use second::tables::{tables, Table};
 
 use super::{Cases, KINDS};
-use crate::record::{BYTE_BEFORE, LONGEST_ROOM};
+use crate::record::LONGEST_ROOM;
 
 impl Cases {
     /// All cases of the writer.
@@ -137,9 +138,4 @@ impl Cases {
         }
         lists
     }
-}
-
-/// Says whether every byte is as it was before the call.
-pub(super) fn is_untouched(out: &[u8]) -> bool {
-    out.iter().all(|&byte| byte == BYTE_BEFORE)
 }

@@ -1,20 +1,13 @@
 //! The records of building: the card of lists that are given, and a build from the current card.
 
 use second::build::{self, Built};
-use second::lists::{Lists, LONGEST_LIST};
-use second::refusal::Refusal;
-use second::verdict::Verdict;
+use second::lists::Lists;
+use second::stored::{outcome_words, Outcome, BYTE_BEFORE, LONGEST_OUTPUT};
 
-use super::writing::BYTE_BEFORE;
-use super::{hash, refusal_words, Record, VERDICTS};
+use super::{Record, VERDICTS};
 
 /// The most placements that a record may walk.
 pub const MOST_PLACEMENTS: u32 = 100_000;
-/// The most bytes that an output of a build may have.
-pub const LONGEST_OUTPUT: usize = LONGEST_LIST as usize;
-
-/// The answer to a build, and the whole output after it.
-pub type Outcome = (Result<Built, Refusal>, Vec<u8>);
 
 impl Record {
     /// Sets the current card to the one that the writer makes of sound lists.
@@ -42,31 +35,25 @@ impl Record {
         self.stdin.extend_from_slice(&(room as u16).to_le_bytes());
         let mut out = vec![BYTE_BEFORE; room];
         let answer = build::build(&self.card, budget, &mut out);
-        let words = match answer {
-            Ok(built) => self.built_words(built),
-            Err(refusal) => refusal_words(refusal),
-        };
-        let hash = hash(out.iter().map(|&byte| u64::from(byte)));
-        self.line(8, &format!("{words} {hash}"), answer.is_err());
-        (answer, out)
+        if let Ok(built) = answer {
+            self.count_built(built);
+        }
+        let outcome = (answer, out);
+        self.line(8, &outcome_words(&outcome), answer.is_err());
+        outcome
     }
 
-    /// The verdict and its numbers; the placements are also added to all that were walked.
-    fn built_words(&mut self, built: Built) -> String {
+    /// Counts the verdict, and adds the placements to all that were walked.
+    fn count_built(&mut self, built: Built) {
         let Built {
             verdict,
-            length,
             placements,
+            ..
         } = built;
         assert!(placements <= MOST_PLACEMENTS, "{placements} placements");
         self.placements += u64::from(placements);
         for (counted, count) in VERDICTS.iter().zip(&mut self.verdicts) {
             *count += usize::from(*counted == verdict);
-        }
-        let name = verdict.name();
-        match verdict {
-            Verdict::Sole | Verdict::Several => format!("{name} {length} {placements}"),
-            Verdict::None | Verdict::Unsettled => format!("{name} {placements}"),
         }
     }
 }

@@ -3,13 +3,12 @@
 use second::lists::{Lists, LONGEST_LIST};
 use second::reader;
 use second::refusal::{Reason, Refusal};
+use second::stored::{hash, refusal_words, BYTE_BEFORE};
 
-use super::{hash, refusal_words, Record};
+use super::Record;
 
 /// The most bytes that an output of the vectors may have.
 pub const LONGEST_ROOM: usize = 6400;
-/// What every byte of an output holds before the call.
-pub const BYTE_BEFORE: u8 = 165;
 
 /// The answer to a call of the writer, and the whole output after it.
 pub type Written = (Result<usize, Refusal>, Vec<u8>);

@@ -3,10 +3,10 @@
 use second::cards::{any_card, damage};
 use second::for_builds::{any_budget, any_room, any_sound_lists};
 use second::reader;
+use second::stored::LONGEST_OUTPUT;
 use second::verdict::Verdict;
 
 use crate::cases::Cases;
-use crate::record::LONGEST_OUTPUT;
 
 /// The most placements that a card of any sort is walked for.
 const MOST: u32 = 1000;

@@ -2,10 +2,10 @@
 
 use second::cards::put_all_right;
 use second::numbers::BLOCK;
+use second::stored::LONGEST_OUTPUT;
 
 use crate::cases::several::ladder;
 use crate::cases::{Cases, KINDS};
-use crate::record::LONGEST_OUTPUT;
 
 impl Cases {
     /// All cards with faults that are known.

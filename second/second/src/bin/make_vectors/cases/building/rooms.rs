@@ -4,10 +4,10 @@ use second::lists::Lists;
 use second::pair_lists::{forced_up, in_steps, with_choices};
 use second::profile::Kind;
 use second::spans::{sequence, with_build, words_in};
+use second::stored::LONGEST_OUTPUT;
 use second::verdict::Verdict;
 
 use crate::cases::Cases;
-use crate::record::LONGEST_OUTPUT;
 
 impl Cases {
     /// Room around m+l−1 and far from it, for each verdict on each kind of card.

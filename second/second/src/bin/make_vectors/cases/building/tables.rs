@@ -3,12 +3,11 @@
 use second::build::Built;
 use second::pair_lists::alone;
 use second::spans::around;
+use second::stored::{is_untouched, LONGEST_OUTPUT};
 use second::tables::{tables, Table};
 use second::verdict::Verdict;
 
-use crate::cases::writing::is_untouched;
 use crate::cases::Cases;
-use crate::record::LONGEST_OUTPUT;
 
 impl Cases {
     /// Each small table at every budget around its placements and at the largest.

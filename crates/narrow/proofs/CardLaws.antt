@@ -1,0 +1,88 @@
+-- Laws of settling a card that was admitted into lists: what is answered from them is what is answered from the card. Assumes nothing.
+use mathlib.Core.Path.{_≡_, sym, ap, _∙_}
+use mathlib.Core.List.{List, [], _∷_}
+use Prim.Native.Nat.{ℕ, _≤_}
+use lib.ListN.{length, take}
+use lib.Dec.{leb}
+use Rattle.answers.specs.declared.Refusal.{Refusal}
+use Rattle.answers.specs.Numbers.{Room}
+use Rattle.answers.specs.Answer.{Answer, given, test, first, sound}
+use Rattle.answers.proofs.Laws.{first-holds}
+use Rattle.entries.specs.declared.Format.{Format}
+use Rattle.layout.specs.Bounds.{mostEntries}
+use Rattle.card.specs.declared.Admitted.{Admitted}
+use Rattle.card.specs.declared.Admitted.the-variants.{Card, Refused}
+use Rattle.card.specs.Reading.{readingOrder}
+use Rattle.card.specs.Fetching.{admission, saysAdmitted}
+use Rattle.card.specs.Listing.{Listed}
+use Rattle.card.proofs.FetchingLaws.{admission-admits}
+use Rattle.card.proofs.ListingLaws.{listed-admitted, listed-words, listed-ones, listed-twos, listed-not-admitted}
+use Rattle.lists.specs.Lists.{listsTests}
+use Rattle.lists.proofs.Laws.{accepted-lists}
+use Rattle.lists.proofs.AdmittedLaws.{itsWords, itsOnes, itsTwos, its-accepted, format-same}
+use Rattle.sequence.specs.Verdict.{Outcome}
+use Rattle.builds.specs.declared.BuildAnswer.{BuildAnswer}
+use Rattle.builds.specs.declared.BuildAnswer.the-variants as is
+use Rattle.builds.specs.Building.{lettersIn, buildTests, slotsOn, answerOf}
+use Rattle.builds.proofs.CardLaws.{reader-refuses, its-entries}
+use Rattle.narrow.specs.Settling.{listsBuildTests, Settled, OfCard, OfLists, Settles}
+use Rattle.narrow.proofs.TestLaws.{tests-refuse}
+use Rattle.narrow.proofs.SettlingLaws.{refused-settles, other-tests}
+
+-- ---- the same from a card and from its lists
+
+module _ (card : List ℕ) {f : Format} (admitted : admission mostEntries card ≡ given f) where
+  -- the tests of building answer the same
+  its-tests : (room : ℕ)
+      → first (listsBuildTests mostEntries (f .kind) (f .l) (itsWords mostEntries card admitted) (itsOnes mostEntries card admitted)
+      (itsTwos mostEntries card admitted) room) sound
+      ≡ first (buildTests mostEntries card room) sound
+  unfolding buildTests listsBuildTests
+  its-tests room =
+      let had = admission-admits mostEntries card admitted in
+      let lists = listsTests mostEntries (f .kind) (f .l) (itsWords mostEntries card admitted) (itsOnes mostEntries card admitted)
+      (itsTwos mostEntries card admitted) in
+      first-holds _ sound lists (accepted-lists (its-accepted mostEntries card admitted))
+      ∙ ap (λ (g : Format). first (test (leb (lettersIn g) room) Room 0 ∷ []) sound) (format-same mostEntries card admitted ∙ had .told)
+      ∙ sym (first-holds _ sound (readingOrder mostEntries card) (had .order))
+
+  its-settled : (room : ℕ) {a : Answer Outcome}
+      → OfLists mostEntries (f .kind) (f .l) (itsWords mostEntries card admitted) (itsOnes mostEntries card admitted)
+      (itsTwos mostEntries card admitted) room a
+      → OfCard mostEntries card room a
+  its-settled room {a} c =
+      let had = admission-admits mostEntries card admitted in
+      let on : Settled (buildTests mostEntries card room) (f .kind) (f .l) (slotsOn card) a =
+      rw (its-entries mostEntries card admitted) at (other-tests (its-tests room) c) in
+      rw (had .told) at on
+
+-- ---- the card, by what it is admitted into
+
+module _ {card words ones twos words′ ones′ twos′ : List ℕ} {q : Admitted}
+    (did : Listed mostEntries card words ones twos q words′ ones′ twos′) where
+  listed-says : (room : ℕ) {f : Format} {a : Answer Outcome} → q ≡ Card f
+      → OfLists mostEntries (f .kind) (f .l) (take (f .m) words′) (take (f .m) ones′) (take (f .m) twos′) room a
+      → OfCard mostEntries card room a
+  listed-says room e c =
+      let told = ap saysAdmitted e in
+      its-settled card (listed-admitted did told) room (rw (listed-words did told, listed-ones did told, listed-twos did told) at c)
+
+  pub listed-settles : {f : Format} {before after : List ℕ} {r : BuildAnswer} → q ≡ Card f
+      → Settles answerOf (OfLists mostEntries (f .kind) (f .l) (take (f .m) words′) (take (f .m) ones′) (take (f .m) twos′) (length before))
+      before r after
+      → Settles answerOf (OfCard mostEntries card (length before)) before r after
+  listed-settles {before = before} e c = record {
+    said = c .said;
+    says = listed-says (length before) e (c .says);
+    answer = c .answer;
+    output = c .output;
+  }
+
+  pub card-refused : {n : Refusal} {before : List ℕ} → q ≡ Refused n → mostEntries ≤ length words → mostEntries ≤ length ones
+      → mostEntries ≤ length twos
+      → Settles answerOf (OfCard mostEntries card (length before)) before (is.Refused n) before
+  card-refused {n} {before} e a b c =
+      let said : Listed mostEntries card words ones twos (Refused n) words′ ones′ twos′ = rw e at did in
+      refused-settles
+      (tests-refuse _ _ (buildTests mostEntries card (length before))
+      (reader-refuses mostEntries card (length before) (listed-not-admitted said a b c)))

@@ -1,0 +1,35 @@
+-- Settling has no budget to run out of: it never answers Unsettled, and its placements are 0.
+--   Unbudgeted r       == the answer r is a verdict with placements 0, or a refusal
+-- Assumes nothing.
+use mathlib.Core.Path.{_≡_, refl}
+use mathlib.Core.List.{List}
+use Prim.Native.Nat.{ℕ}
+use Rattle.answers.specs.Answer.{Answer, given, Test}
+use Rattle.entries.specs.declared.Slot.{Slot}
+use Rattle.sequence.specs.Verdict.{sole, several, noBuild, Outcome}
+use Rattle.layers.specs.Settling.{Means, settles}
+use Rattle.builds.specs.declared.BuildAnswer.{BuildAnswer}
+use Rattle.builds.specs.declared.BuildAnswer.the-variants.{Sole, Several, None, Unsettled, Refused}
+use Rattle.builds.specs.Building.{answerOf}
+use Rattle.narrow.specs.Settling.{Settled, tells, refuses, Settles}
+
+abbrev pub Unbudgeted : BuildAnswer → Type 0
+Unbudgeted (Sole n k) = k ≡ 0
+Unbudgeted (Several n k) = k ≡ 0
+Unbudgeted (None k) = k ≡ 0
+Unbudgeted (Unsettled k) = ⊥
+Unbudgeted (Refused r) = Unit {0}
+
+means-unbudgeted : {l : ℕ} {es : List Slot} {o : Outcome} → Means l es o → Unbudgeted (answerOf (given o))
+means-unbudgeted (settles {v = sole s} _) = refl
+means-unbudgeted (settles {v = several s} _) = refl
+means-unbudgeted (settles {v = noBuild} _) = refl
+
+settled-unbudgeted : {ts : List Test} {kind l : ℕ} {es : List Slot} {a : Answer Outcome} → Settled ts kind l es a → Unbudgeted (answerOf a)
+settled-unbudgeted (tells e m) = means-unbudgeted m
+settled-unbudgeted (refuses e) = tt
+
+pub settles-unbudgeted : {ts : List Test} {kind l : ℕ} {es : List Slot} {before after : List ℕ} {r : BuildAnswer}
+    → Settles answerOf (Settled ts kind l es) before r after
+    → Unbudgeted r
+settles-unbudgeted c = rw (c .answer) (settled-unbudgeted (c .says))

@@ -1,0 +1,191 @@
+-- Laws of the tests of settling: the widths one by one, the tests before them, and what lists that pass them all are. Assumes nothing.
+use mathlib.Core.Path.{_≡_, refl, sym, ap, _∙_}
+use mathlib.Core.Logic.{_⊎_, inl, inr}
+use mathlib.Core.Bool.{Bool, true, false, cond}
+use mathlib.Core.List.{List, [], _∷_}
+use Prim.Native.Nat.{ℕ, zero, suc, _+_, _-_, _≤_, _<_}
+use native.Mathlib.Omega.{arith}
+use lib.Dec.{eqb, leb, ltb}
+use borrow.Author.Tests.{eqb-true, eq-eqb, ne-eqb, leb-true, leb-false, le-leb, lt-leb, lt-ltb, le-ltb}
+use Rattle.answers.specs.Numbers.{Kind, Room, Wider}
+use Rattle.answers.specs.Answer.{Answer, given, refused, Sound, sound, Test, test, first}
+use Rattle.answers.specs.Row.{row, inTurn}
+use Rattle.answers.proofs.Laws.{first-holds, first-refused, first-both, first-pass, first-passed, first-last, first-fail, given-not-refused}
+use Rattle.answers.proofs.Numbered.{Numbered, none, also, numbered-append}
+use Rattle.entries.specs.declared.Slot.{Slot}
+use Rattle.entries.specs.Slot.{entriesIn}
+use Rattle.entries.specs.Fault.{span}
+use Rattle.layout.specs.Bounds.{mostEntries}
+use Rattle.lists.specs.Lists.{formatFor, listsTests}
+use Rattle.lists.proofs.Laws.{lists-numbered}
+use Rattle.sequence.specs.Lists as members
+use Rattle.layers.specs.Narrow.{widestNarrow, isNarrow, Narrow}
+use Rattle.builds.specs.Building.{lettersIn}
+use Rattle.builds.specs.From as builds
+use Rattle.narrow.specs.Settling.{widthTests, listsBuildTests, settleTests}
+use Rattle.narrow.specs.Passing.{Passes}
+
+-- ---- the widths
+
+pub narrow-by : (s : Slot) → ltb (s .two) (s .one + widestNarrow) ≡ isNarrow s
+narrow-by s = go (isNarrow s) refl
+  where
+    go : (t : Bool) → isNarrow s ≡ t → ltb (s .two) (s .one + widestNarrow) ≡ t
+    go true e = lt-ltb (s .two) (s .one + widestNarrow) (omega (arith, leb-true (s .two - s .one + 1) widestNarrow e))
+    go false e = le-ltb (s .two) (s .one + widestNarrow) (omega (arith, leb-false (s .two - s .one + 1) widestNarrow e))
+
+-- the test of entry e
+abbrev pub widthTest : (ℕ → Slot) → ℕ → List Test
+widthTest f e = test (isNarrow (f e)) Wider e ∷ []
+
+-- those of all are each in turn
+pub widths-in-turn : (f : ℕ → Slot) (k n : ℕ) → widthTests k (row f k n) ≡ inTurn (widthTest f) k n
+unfolding widthTests row inTurn
+widths-in-turn f k zero = refl
+widths-in-turn f k (suc n) = ap (λ (ts : List Test). test (isNarrow (f k)) Wider k ∷ ts) (widths-in-turn f (suc k) n)
+
+-- where they hold each span is narrow
+pub widths-narrow : (k : ℕ) (es : List Slot) → first (widthTests k es) sound ≡ given sound → Narrow es
+unfolding widthTests
+widths-narrow k es e = record { each = λ s i. go k es e i }
+  where
+    go : (k : ℕ) (es : List Slot) → first (widthTests k es) sound ≡ given sound → {s : Slot} → members.In s es → isNarrow s ≡ true
+    go k (s ∷ es) e members.first = first-passed (isNarrow s) Wider k (widthTests (suc k) es) sound sound e .0
+    go k (s ∷ es) e (members.later i) = go (suc k) es (first-passed (isNarrow s) Wider k (widthTests (suc k) es) sound sound e .1) i
+
+widths-numbered : (k : ℕ) (es : List Slot) → Numbered (widthTests k es)
+unfolding widthTests
+widths-numbered k [] = none
+widths-numbered k (s ∷ es) = also {n = Wider} (omega arith) (widths-numbered (suc k) es)
+
+-- they refuse by 30
+widths-refusals : (k : ℕ) (es : List Slot) {n p : ℕ} → first (widthTests k es) sound ≡ refused n p → n ≡ Wider
+unfolding widthTests first
+widths-refusals k [] e = absurd (given-not-refused e)
+widths-refusals k (s ∷ es) {n} {p} e = go (isNarrow s) (λ f. widths-refusals (suc k) es f) e
+  where
+    go : (b : Bool) → (first (widthTests (suc k) es) sound ≡ refused n p → n ≡ Wider)
+        → cond b (first (widthTests (suc k) es) sound) (refused Wider k) ≡ refused n p
+        → n ≡ Wider
+    go true later f = later f
+    go false later f = cc
+
+-- ---- the kind, and then the widths
+
+abbrev pub spanTests : ℕ → List Slot → List Test
+spanTests kind es = test (eqb kind span) Kind 0 ∷ widthTests 0 es
+
+module _ (kind : ℕ) (es : List Slot) where
+  pub span-go-on : kind ≡ span → first (widthTests 0 es) sound ≡ first (spanTests kind es) sound
+  span-go-on e = sym (first-pass (eqb kind span) Kind 0 (widthTests 0 es) sound (eq-eqb kind span e))
+
+  pub span-wrong : (kind ≡ span → ⊥) → refused Kind 0 ≡ first (spanTests kind es) sound
+  span-wrong n = sym (first-fail (eqb kind span) Kind 0 (widthTests 0 es) sound (ne-eqb kind span n))
+
+  pub span-hold : first (spanTests kind es) sound ≡ given sound → (kind ≡ span) × Narrow es
+  span-hold e =
+      let b = first-passed (eqb kind span) Kind 0 (widthTests 0 es) sound sound e in
+      (eqb-true kind span (b .0), widths-narrow 0 es (b .1))
+
+  -- they refuse by 5 or by 30
+  span-refusals : {n p : ℕ} → first (spanTests kind es) sound ≡ refused n p → (n ≡ Kind) ⊎ (n ≡ Wider)
+  span-refusals {n} {p} = go (eqb kind span)
+    where
+      go : (b : Bool) → first (test b Kind 0 ∷ widthTests 0 es) sound ≡ refused n p → (n ≡ Kind) ⊎ (n ≡ Wider)
+      go true e = inr (widths-refusals 0 es (sym (first-pass true Kind 0 (widthTests 0 es) sound refl) ∙ e))
+      go false e = let same = sym (first-fail false Kind 0 (widthTests 0 es) sound refl) ∙ e in inl (cc)
+
+-- ---- tests of building, and then these
+
+module _ (kind : ℕ) (es : List Slot) (ts : List Test) where
+  pub tests-refuse : {n p : ℕ} → first ts sound ≡ refused n p → first (settleTests kind es ts) sound ≡ refused n p
+  unfolding settleTests
+  tests-refuse e = first-refused _ sound ts e
+
+  pub tests-go-on : first ts sound ≡ given sound → first (settleTests kind es ts) sound ≡ first (spanTests kind es) sound
+  unfolding settleTests
+  tests-go-on e = first-holds _ sound ts e
+
+  pub tests-hold : first (settleTests kind es ts) sound ≡ given sound
+      → (first ts sound ≡ given sound) × (first (spanTests kind es) sound ≡ given sound)
+  unfolding settleTests
+  tests-hold e = first-both _ sound ts sound e
+
+  pub tests-numbered : Numbered ts → Numbered (settleTests kind es ts)
+  unfolding settleTests
+  tests-numbered h = numbered-append h (also {n = Kind} (omega arith) (widths-numbered 0 es))
+
+  -- tests of building that answer the same
+  pub tests-same : (ts′ : List Test) → first ts sound ≡ first ts′ sound
+      → first (settleTests kind es ts) sound ≡ first (settleTests kind es ts′) sound
+  unfolding settleTests
+  tests-same ts′ e = go (first ts′ sound) refl
+    where
+      go : (a : Answer Sound) → first ts′ sound ≡ a → first (settleTests kind es ts) sound ≡ first (settleTests kind es ts′) sound
+      go (given sound) f = first-holds _ sound ts (e ∙ f) ∙ sym (first-holds _ sound ts′ f)
+      go (refused n p) f = first-refused _ sound ts (e ∙ f) ∙ sym (first-refused _ sound ts′ f)
+
+  -- what refuses is a test of building, or where they hold 5 or 30
+  pub refusals : {n p : ℕ} → first (settleTests kind es ts) sound ≡ refused n p
+      → (first ts sound ≡ refused n p) ⊎ ((first ts sound ≡ given sound) × ((n ≡ Kind) ⊎ (n ≡ Wider)))
+  refusals {n} {p} e = go (first ts sound) refl
+    where
+      go : (a : Answer Sound) → first ts sound ≡ a
+          → (first ts sound ≡ refused n p) ⊎ ((first ts sound ≡ given sound) × ((n ≡ Kind) ⊎ (n ≡ Wider)))
+      go (given sound) h = inr (h, span-refusals kind es (sym (tests-go-on h) ∙ e))
+      go (refused k q) h = inl (h ∙ sym (tests-refuse h) ∙ e)
+
+-- ---- building from lists
+
+module _ (limit kind l : ℕ) (words ones twos : List ℕ) (room : ℕ) where
+  pub lists-refuse : {n p : ℕ} → first (listsTests limit kind l words ones twos) sound ≡ refused n p
+      → first (listsBuildTests limit kind l words ones twos room) sound ≡ refused n p
+  unfolding listsBuildTests
+  lists-refuse e = first-refused _ sound (listsTests limit kind l words ones twos) e
+
+  lists-build : first (listsBuildTests limit kind l words ones twos room) sound ≡ given sound
+      → (first (listsTests limit kind l words ones twos) sound ≡ given sound) × (lettersIn (formatFor kind l words) ≤ room)
+  unfolding listsBuildTests
+  lists-build e =
+      let b = first-both _ sound (listsTests limit kind l words ones twos) sound e in
+      (b .0, leb-true _ room (first-passed (leb _ room) Room 0 [] sound sound (b .1) .0))
+
+  pub lists-build-numbered : Numbered (listsBuildTests limit kind l words ones twos room)
+  unfolding listsBuildTests
+  lists-build-numbered = numbered-append (lists-numbered limit kind l words ones twos) (also {n = Room} (omega arith) none)
+
+  module _ (e : first (listsTests limit kind l words ones twos) sound ≡ given sound) where
+    pub lists-no-room : room < lettersIn (formatFor kind l words)
+        → first (listsBuildTests limit kind l words ones twos room) sound ≡ refused Room 0
+    unfolding listsBuildTests
+    lists-no-room h =
+        first-holds _ sound (listsTests limit kind l words ones twos) e ∙ first-fail (leb _ room) Room 0 [] sound (lt-leb _ room h)
+
+    pub lists-has-room : lettersIn (formatFor kind l words) ≤ room
+        → first (listsBuildTests limit kind l words ones twos room) sound ≡ given sound
+    unfolding listsBuildTests
+    lists-has-room h =
+        first-holds _ sound (listsTests limit kind l words ones twos) e ∙ first-last (leb _ room) Room 0 sound (le-leb _ room h)
+
+-- ---- lists that pass every test
+
+module _ {kind l : ℕ} {words ones twos : List ℕ} {room : ℕ} (p : Passes kind l words ones twos room) where
+  building : first (listsBuildTests mostEntries kind l words ones twos room) sound ≡ given sound
+  building = tests-hold kind (entriesIn words ones twos) (listsBuildTests mostEntries kind l words ones twos room) (p .hold) .0
+
+  narrowing : (kind ≡ span) × Narrow (entriesIn words ones twos)
+  narrowing =
+      span-hold kind (entriesIn words ones twos)
+      (tests-hold kind (entriesIn words ones twos) (listsBuildTests mostEntries kind l words ones twos room) (p .hold) .1)
+
+  pub passes-sound : builds.Sound kind l words ones twos
+  passes-sound = record { hold = lists-build mostEntries kind l words ones twos room building .0 }
+
+  pub passes-room : lettersIn (formatFor kind l words) ≤ room
+  passes-room = lists-build mostEntries kind l words ones twos room building .1
+
+  pub passes-span : kind ≡ span
+  passes-span = narrowing .0
+
+  pub passes-narrow : Narrow (entriesIn words ones twos)
+  passes-narrow = narrowing .1

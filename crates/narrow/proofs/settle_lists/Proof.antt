@@ -1,0 +1,43 @@
+-- `settle_lists` meets its contract: the tests of the lists, and then those of lists that hold. Assumes nothing.
+use Rattle.answers.proofs.Laws.{told-holds, told-refused}
+use Rattle.narrow.proofs.TestLaws.{lists-refuse}
+use Rattle.narrow.proofs.SettlingLaws.{building-refused}
+use borrow.Author.Needs.{needs}
+use Rattle.narrow.proofs.settle_lists.Statement.{statement}
+use Rattle.narrow.proofs.settle_lists.Tie as tie
+
+lists-hold-requires : tie.Need-lists-hold-requires
+lists-hold-requires c κs = search needs
+
+enum-told : tie.Need-enum-told
+enum-told c = search needs
+
+settle-sound-requires : tie.Need-settle-sound-requires
+settle-sound-requires c κs =
+    let told = c .before in record { hold = told-holds (told .before .before .lists-hold .ensures) (told .enum-told .given .1) }
+
+enum-known-r : tie.Need-enum-known-r
+enum-known-r c = search needs
+
+same-length : tie.Need-same-length
+same-length c = search needs
+
+returns : tie.Need-returns
+returns c = search needs
+
+returns-2 : tie.Need-returns-2
+returns-2 c =
+    let known = c .before in
+    building-refused (lists-refuse _ _ _ _ _ _ _ (told-refused (known .before .before .lists-hold .ensures) (known .r .given .1)))
+
+pub settle-lists-spec : {M : Type 1} → statement M
+settle-lists-spec =
+    tie.close
+    (tie.spec
+    lists-hold-requires
+    enum-told
+    settle-sound-requires
+    enum-known-r
+    same-length
+    returns
+    returns-2)

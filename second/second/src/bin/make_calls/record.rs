@@ -1,0 +1,81 @@
+//! The two files of the calls as they grow.
+
+mod counting;
+mod settling;
+
+use second::lists::{Lists, LONGEST_LIST};
+
+use counting::Counts;
+use settling::Settles;
+
+pub use counting::Answer;
+
+/// The most bytes that a card may have.
+const LONGEST_CARD: usize = 6400;
+
+/// The calls so far.
+#[derive(Default)]
+pub struct Record {
+    stdin: Vec<u8>,
+    stdout: String,
+    counts: Counts,
+    settles: Settles,
+}
+
+impl Record {
+    /// The records, one after the other.
+    pub fn stdin(&self) -> &[u8] {
+        &self.stdin
+    }
+
+    /// The lines that the records give.
+    pub fn stdout(&self) -> &str {
+        &self.stdout
+    }
+
+    /// How many records there are, and how often each answer came: a line for the counts, and one for what is settled.
+    pub fn summary(&self) -> String {
+        format!("{}\n{}", self.counts.summary(), self.settles.summary())
+    }
+
+    /// Puts the tag of a card's record, and the number of its bytes.
+    fn put_size(&mut self, tag: u8, card: &[u8]) {
+        assert!(card.len() <= LONGEST_CARD, "a card of {}", card.len());
+        self.stdin.push(tag);
+        self.put(&(card.len() as u32).to_le_bytes());
+    }
+
+    /// Puts the tag of a record of lists, and their kind, l and lengths.
+    fn put_numbers(&mut self, tag: u8, lists: &Lists) {
+        let lengths = [lists.words.len(), lists.ones.len(), lists.twos.len()];
+        assert!(lengths.iter().all(|&n| n <= usize::from(LONGEST_LIST)));
+        self.stdin.push(tag);
+        for number in [lists.kind, lists.l] {
+            self.put(&(number as u64).to_le_bytes());
+        }
+        for length in lengths {
+            self.put(&(length as u16).to_le_bytes());
+        }
+    }
+
+    /// Puts the elements of three lists.
+    fn put_elements(&mut self, lists: &Lists) {
+        for word in &lists.words {
+            self.put(&word.to_le_bytes());
+        }
+        for place in lists.ones.iter().chain(&lists.twos) {
+            self.put(&place.to_le_bytes());
+        }
+    }
+
+    /// Puts bytes of a record.
+    fn put(&mut self, bytes: &[u8]) {
+        self.stdin.extend_from_slice(bytes);
+    }
+
+    /// Puts the line of a record.
+    fn line(&mut self, line: &str) {
+        self.stdout.push_str(line);
+        self.stdout.push('\n');
+    }
+}
