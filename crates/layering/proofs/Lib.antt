@@ -1,7 +1,7 @@
 -- `DigitLaws`, `ChooseLaws`, `SpreadLaws`, `MarkLaws`: sets of a list's entries as numbers.
 -- `TriedLaws`, `TrialLaws`: who is tried at a place, and the digits told of them. `PlaceLaws`: what is completed from a state at a place.
 -- `StateLaws`, `SideLaws`: the cells of states, and the marks around a place.
--- `ReachLaws`: the sweep forward. `SweepLaws`: the sweep back. `ReadLaws`: reading off. `SettleLaws`, `Determined`: the whole.
+-- `FollowLaws`, `ReachLaws`: the sweep forward. `SweepLaws`: the sweep back. `ReadLaws`: reading off. `SettleLaws`, `Determined`: the whole.
 pub mod DigitLaws
 pub mod ChooseLaws
 pub mod TriedLaws
@@ -12,6 +12,7 @@ pub mod StateLaws
 pub mod TrialLaws
 pub mod SideLaws
 pub mod SweepLaws
+pub mod FollowLaws
 pub mod ReachLaws
 pub mod ReadLaws
 pub mod SettleLaws

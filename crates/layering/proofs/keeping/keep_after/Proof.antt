@@ -7,7 +7,7 @@ use borrow.Author.Needs.{needs}
 use Rattle.memory.specs.Memory.{bitsOf}
 use Rattle.layering.specs.States.{cellsOver, cellOf}
 use Rattle.layering.proofs.StateLaws.{marked-unmarked}
-use Rattle.layering.proofs.ReachLaws.{there-rises, there-ends, there-lent, there-below, there-few}
+use Rattle.layering.proofs.FollowLaws.{there-rises, there-ends, there-lent, there-below, there-few}
 use Rattle.layering.proofs.keeping.keep_after.Statement.{statement}
 use Rattle.layering.proofs.keeping.keep_after.Tie as tie
 

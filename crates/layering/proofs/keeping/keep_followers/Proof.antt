@@ -4,7 +4,7 @@ use Prim.Native.Nat.{_+_, _-_, _≤_, _<_}
 use native.Mathlib.Omega.{arith}
 use lib.ListN.{length, getD}
 use Rattle.layering.specs.States.{duesIn}
-use Rattle.layering.proofs.ReachLaws.{there-rises, there-ends, there-lent, there-below, Following, following-none, following-can, following-turn, following-all, stepped-same}
+use Rattle.layering.proofs.FollowLaws.{there-rises, there-ends, there-lent, there-below, Following, following-none, following-can, following-turn, following-all, stepped-same}
 use Rattle.layering.proofs.keeping.keep_followers.Statement.{statement}
 use Rattle.layering.proofs.keeping.keep_followers.Tie as tie
 

@@ -7,7 +7,7 @@ use lib.ListN.{length, getD}
 use borrow.Author.Needs.{needs}
 use Rattle.answers.proofs.Tests.{failed, passed}
 use Rattle.layering.specs.Keeping.{isTried}
-use Rattle.layering.proofs.ReachLaws.{there-entry, there-cell, tried-left, stepped-skip, stepped-take}
+use Rattle.layering.proofs.FollowLaws.{there-entry, there-cell, tried-left, stepped-skip, stepped-take}
 use Rattle.layering.proofs.keeping.keep_next.Statement.{statement}
 use Rattle.layering.proofs.keeping.keep_next.Tie as tie
 

@@ -13,7 +13,8 @@ use Rattle.layering.specs.Digits.{Spread}
 use Rattle.layering.specs.States.{cellsOver, Sides}
 use Rattle.layering.proofs.StateLaws.{list-few}
 use Rattle.layering.proofs.SideLaws.{sides-spread, spread-asks}
-use Rattle.layering.proofs.ReachLaws.{keepable, upto-skip, upto-follow}
+use Rattle.layering.proofs.FollowLaws.{keepable}
+use Rattle.layering.proofs.ReachLaws.{upto-skip, upto-follow}
 use Rattle.layering.proofs.keeping.keep_state.Statement.{statement}
 use Rattle.layering.proofs.keeping.keep_state.Tie as tie
 
