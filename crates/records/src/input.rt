@@ -75,6 +75,7 @@ pub fn places(n: usize) -> PlacesRead
 // Whether a record can have lists of so many slots.
 pub fn are_few(a: usize, b: usize, c: usize) -> bool
     ensures { λ r. ⌜ (r ≡ true → (a ≤ slots) × (b ≤ slots) × (c ≤ slots)) ⌝ }
+    ensures { λ r. ⌜ ((a ≤ slots) × (b ≤ slots) × (c ≤ slots) → r ≡ true) ⌝ }
 {
     if a <= SLOTS {
         if b <= SLOTS {

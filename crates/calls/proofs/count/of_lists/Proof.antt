@@ -29,7 +29,7 @@ returns : tie.Need-returns
 returns c = search needs
 
 tell-lists-requires : tie.Need-tell-lists-requires
-tell-lists-requires c κs = let asked = c .before .are-few in asked .ensures (not-false (asked .result) (c .if1 .left))
+tell-lists-requires c κs = let asked = c .before .are-few in asked .ensures .0 (not-false (asked .result) (c .if1 .left))
 
 returns-2 : tie.Need-returns-2
 returns-2 c = search needs

@@ -21,7 +21,7 @@ module _ (c : tie.Else1) where
       (sized .before .before .before .before .two-at .result ≤ slots)
       × (sized .before .before .two-at2 .result ≤ slots)
       × (sized .two-at3 .result ≤ slots)
-  few = let asked = c .before .are-few in asked .ensures (not-false (asked .result) (c .if1 .left))
+  few = let asked = c .before .are-few in asked .ensures .0 (not-false (asked .result) (c .if1 .left))
 
 two-at-requires : tie.Need-two-at-requires
 two-at-requires c κs = search needs

@@ -55,7 +55,7 @@ slice-aggregate-write-told c = simp length-take (omega arith)
 write-told-requires : tie.Need-write-told-requires
 write-told-requires c κs =
     let at = few-lists c in
-    let asked = at .before .are-few in asked .ensures (not-false (asked .result) (at .if1 .left))
+    let asked = at .before .are-few in asked .ensures .0 (not-false (asked .result) (at .if1 .left))
 
 returns-3 : tie.Need-returns-3
 returns-3 c = search needs
