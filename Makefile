@@ -5,13 +5,14 @@
 # make bench      times the compiled library beside the second implementation
 # make soak       compares them on COUNT random calls, by default 10000000; SEED=N for other calls
 # make vectors    writes the stored vectors and calls anew from the second implementation
-# make samples    lays the sample cards out anew from their tables
+# make samples    lays the sample cards and lists out anew from their tables
 export CARGO_TARGET_DIR := $(CURDIR)/target/cargo
 export CARGO_NET_OFFLINE := true
 export BELFRYMIST_LIB := $(CURDIR)/target/archive
 export BELFRYMIST_BUILD := $(CURDIR)/target/bin/build
 export BELFRYMIST_REPORT := $(CURDIR)/target/cargo/release/report
 
+PROGRAMS := build settle count_builds list2card card2list
 PREFIX ?= /usr/local
 CARD ?= samples/s1.card
 COUNT ?= 10000000
@@ -23,7 +24,7 @@ all:
 	rt check
 
 programs:
-	rt check build settle count_builds
+	rt check $(PROGRAMS)
 
 run: programs
 	tests/x86 target/bin/build < $(CARD)
@@ -33,8 +34,8 @@ test:
 
 install: programs
 	install -d $(DESTDIR)$(PREFIX)/bin $(DESTDIR)$(PREFIX)/share/man/man1 $(DESTDIR)$(PREFIX)/include
-	install -m 755 target/bin/build target/bin/settle target/bin/count_builds $(DESTDIR)$(PREFIX)/bin
-	install -m 644 man/build.1 man/settle.1 man/count_builds.1 $(DESTDIR)$(PREFIX)/share/man/man1
+	install -m 755 $(PROGRAMS:%=target/bin/%) $(DESTDIR)$(PREFIX)/bin
+	install -m 644 $(PROGRAMS:%=man/%.1) $(DESTDIR)$(PREFIX)/share/man/man1
 	install -m 644 include/belfrymist.h $(DESTDIR)$(PREFIX)/include/belfrymist.h
 
 archive:

@@ -1,5 +1,5 @@
-/* Spectrum cards: admitting, reading and writing them, building the sequence, settling narrow cards, and counting builds. For firmware, in C99
- * and in C++.
+/* Spectrum cards: admitting, reading and writing them, building the sequence, settling narrow cards, counting builds, and probe lists. For
+ * firmware, in C99 and in C++.
  *
  * Link libfirmware.a, which `tests/archive FOLDER` writes for x86-64. Each function is proved to meet its contract, which stands over
  * the function of the same name in crates/firmware/src/. This file says the same in words; where the two differ, the contract is right.
@@ -38,17 +38,20 @@ enum {
     BELFRYMIST_MOST_WIDTH = 8,          /* the places of a span */
     BELFRYMIST_MOST_NARROW = 4,         /* the places of a span that belfrymist_settle takes */
     BELFRYMIST_MOST_CARD = 4608,        /* bytes of the largest card */
+    BELFRYMIST_MOST_LIST = 12600,       /* bytes that are room for the list of every card: 504 lines of at most 25; no longer list is imported */
     BELFRYMIST_MOST_SEQUENCE = 515,     /* letters of the longest sequence: room for every build */
     BELFRYMIST_NO_SECOND_PLACE = 65535  /* place two of an entry that has one place, on a pair card */
 };
 
-/* Bytes of stack that a call of belfrymist_build takes at most, one that settles, one that counts builds, and any other call: measured on x86-64
- * over the samples and the largest cards of both kinds, and not proved. Building takes about 61,000 bytes on a pair card, and on a span card
- * about 28,300 and 320 more for each entry that it places. Settling takes as much for a small card as for a full one. */
+/* Bytes of stack that a call of belfrymist_build takes at most, one that settles, one that counts builds, one of belfrymist_import, and any
+ * other call: measured on x86-64 over the samples and the largest cards of both kinds, and not proved. Building takes about 61,000 bytes on a
+ * pair card, and on a span card about 28,300 and 320 more for each entry that it places. Settling takes as much for a small card as for a full
+ * one. */
 enum {
     BELFRYMIST_STACK = 196608,
     BELFRYMIST_STACK_SETTLING = 90112,
     BELFRYMIST_STACK_COUNTING = 40960,
+    BELFRYMIST_STACK_IMPORTING = 5120,
     BELFRYMIST_STACK_READING = 512
 };
 
@@ -72,7 +75,7 @@ enum {
     BELFRYMIST_UNSETTLED = 4     /* the budget ended the walk: nothing is known of what fits. It is not "none" */
 };
 
-/* The refusals. Places are blocks or entries, both counted from 0 over the whole card. */
+/* The refusals. Places are blocks or entries, both counted from 0 over the whole card; from 23 to 26 lines of a list, counted from 1. */
 enum {
     BELFRYMIST_REFUSED_SHORT = 1,        /* the card has fewer than 512 bytes; place 0 */
     BELFRYMIST_REFUSED_CHECK = 2,        /* a check byte of a block differs; the block */
@@ -89,6 +92,10 @@ enum {
     BELFRYMIST_REFUSED_ROOM = 12,        /* the output is too short; place 0 */
     BELFRYMIST_REFUSED_LISTS = 13,       /* the three lists differ in length; place 0 */
     BELFRYMIST_REFUSED_ABSENT = 14,      /* there is no such block or entry; place 0 */
+    BELFRYMIST_REFUSED_TEXT = 23,        /* what stands on a line is no word, tab, places and newline, or the list is empty; the line */
+    BELFRYMIST_REFUSED_MIXED = 24,       /* a line's mark, comma or hyphen, is not that of an earlier line; the line */
+    BELFRYMIST_REFUSED_UNEVEN = 25,      /* a word has not as many letters as the first; the line */
+    BELFRYMIST_REFUSED_ZERO = 26,        /* place 0, where places count from 1; the line */
     BELFRYMIST_REFUSED_WIDER = 30        /* for belfrymist_settle, a span is over 4 wide; the first such entry */
 };
 
@@ -123,7 +130,7 @@ typedef struct {
 
 typedef struct {
     size_t number, place;
-    size_t length; /* bytes of the card that was written */
+    size_t length; /* bytes of the card that was written; from belfrymist_export, of the list */
 } belfrymist_write_answer;
 
 typedef struct {
@@ -206,6 +213,24 @@ belfrymist_count_answer belfrymist_count(const uint8_t *card, size_t card_len);
  * kind is span. */
 belfrymist_count_answer belfrymist_count_lists(size_t kind, size_t l, const uint32_t *words, size_t words_len, const uint16_t *ones,
                                                size_t ones_len, const uint16_t *twos, size_t twos_len);
+
+/* Writes the card of a probe list, the text that older readers keep. A line is an entry: a word in the capitals A, C, G and T, a tab, its places as
+ * `7`, `3,7` or `3-7`, and a newline, the last line too. A number is at most 65,535, without needless zeros before it. On a list places count from
+ * 1: a listed place p is place p - 1 of the card. A list with a comma makes a pair card, one with a hyphen a span card, on which `7` means `7-7`,
+ * and one with neither a pair card. l is the letters of the first word, m the number of lines.
+ * The card stands at the start of out, `length` bytes of it, as belfrymist_write has it; later bytes are untouched. BELFRYMIST_MOST_CARD bytes
+ * are room for every card.
+ * Refuses, the first of these that holds: each line in turn: 23, 24, 25, 26, with the line from 1, and 23 at 1 where list_len is 0; then of the card:
+ * 6; 7; each entry in turn, 11, with the entry from 0; then 12 where out has fewer bytes than the card. 5, 10 and 13 do not occur. A carriage
+ * return and a byte-order mark are 23. */
+belfrymist_write_answer belfrymist_import(const uint8_t *list, size_t list_len, uint8_t *out, size_t out_len);
+
+/* Writes the probe list of a card, which belfrymist_import makes the same card of. The card is admitted first. There is a line for each entry, in
+ * their order, with places counted from 1: `7` or `3,7` on a pair card, `3-7` on a span card, and `7-7` for a span one place wide.
+ * The list stands at the start of out, `length` bytes of it, with no zero after it; later bytes are untouched. BELFRYMIST_MOST_LIST bytes are room
+ * for every list.
+ * Refuses: the reader's refusals, then 12 where out has fewer bytes than the list. */
+belfrymist_write_answer belfrymist_export(const uint8_t *card, size_t card_len, uint8_t *out, size_t out_len);
 
 #ifdef __cplusplus
 }

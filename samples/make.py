@@ -1,10 +1,11 @@
 #!/usr/bin/env python3
-"""Lays out the sample cards.
+"""Lays out the sample cards and lists.
 
-make.py FOLDER writes FOLDER/NAME.card for each card of cards.txt, the text beside this script that says which there are.
+make.py FOLDER writes FOLDER/NAME.card for each card of cards.txt and FOLDER/NAME.list for each list of lists.txt, the texts beside this
+script that say which there are.
 
-The layout is read off the scope document once more: nothing of it is shared with the proved code or with second/. No rule is tested
-here, so that a card that is to be refused is laid out as it is written.
+The layout is read off the scope document and request 2 once more: nothing of it is shared with the proved code or with second/. No rule is
+tested here, so that a card or a list that is to be refused is laid out as it is written.
 """
 import pathlib
 import re
@@ -15,6 +16,7 @@ INDEX_AT = 508
 ENTRIES_IN_A_BLOCK = 63
 FORM = 1
 KINDS = {"{": 1, "[": 2}
+MARKS = {1: ",", 2: "-"}
 NO_SECOND_PLACE = 65535
 LETTERS = "ACGT"
 ENTRY = re.compile(r"([ACGT]+)(?:\{(\d+)(?:,(\d+))?\}|\[(\d+),(\d+)\])")
@@ -54,7 +56,7 @@ def card(kind, l, entries):
 
 
 def of_table(text):
-    """The card of a table: word{place}, word{place,place} or word[first,last] for each entry, all of one kind."""
+    """Kind, l and entries of a table: word{place}, word{place,place} or word[first,last] for each entry, all of one kind."""
     entries = []
     for entry in text.split():
         word, one, two, first, last = ENTRY.fullmatch(entry).groups()
@@ -63,35 +65,63 @@ def of_table(text):
     kinds = set(re.findall(r"[{[]", text))
     lengths = {len(word) for word, _, _ in entries}
     assert len(kinds) == len(lengths) == 1, text
-    return card(KINDS[kinds.pop()], lengths.pop(), entries)
+    return KINDS[kinds.pop()], lengths.pop(), entries
 
 
 def of_target(text):
-    """The span card of `target L BEFORE AFTER` and a target's letters: each word of L letters with its place in the target and as many
-    places before and after it, as far as the card has them; listed alphabetically."""
+    """The same of `target L BEFORE AFTER` and a target's letters: a span card, each word of L letters with its place in the target and as
+    many places before and after it, as far as the card has them; listed alphabetically."""
     l, before, after = map(int, text.split()[1:4])
     target = "".join(text.split()[4:])
     m = len(target) - l + 1
     entries = [(target[i : i + l], max(0, i - before), min(m - 1, i + after)) for i in range(m)]
-    return card(KINDS["["], l, sorted(entries))
+    return KINDS["["], l, sorted(entries)
 
 
-def cards(text):
-    """Each card's name and bytes, from a text that has `NAME:` on a line before each table; `#` begins a line that says something."""
-    lines = [line for line in text.splitlines() if not line.startswith("#")]
-    parts = re.split(r"^([a-z0-9-]+):$", "\n".join(lines), flags=re.MULTILINE)
+def listed(kind, entries, first=1, bare=False):
+    """The bytes of a probe list: a line for each entry, its places counted from `first`. With `bare` a span one place wide is a number alone."""
+    lines = []
+    for word, one, two in entries:
+        alone = two == NO_SECOND_PLACE if kind == KINDS["{"] else bare and one == two
+        places = [one] if alone else [one, two]
+        lines.append(word + "\t" + MARKS[kind].join(str(place + first) for place in places) + "\n")
+    return "".join(lines).encode()
+
+
+def without_notes(text):
+    """The text without the lines that say something, which begin with `#`."""
+    return "\n".join(line for line in text.splitlines() if not line.startswith("#"))
+
+
+def tables(text):
+    """Kind, l and entries of each card by its name, from a text that has `NAME:` on a line before each table."""
+    parts = re.split(r"^([a-z0-9-]+):$", without_notes(text), flags=re.MULTILINE)
     assert not parts[0].strip(), parts[0]
-    for name, table in zip(parts[1::2], parts[2::2]):
-        of = of_target if table.split()[0] == "target" else of_table
-        yield name, of(table)
+    return {
+        name: (of_target if table.split()[0] == "target" else of_table)(table)
+        for name, table in zip(parts[1::2], parts[2::2])
+    }
+
+
+def lists(text, cards):
+    """Each list's name and bytes, from a text with a line `NAME: CARD FIRST` for each, and the word `bare` where `listed` is to have it."""
+    for line in without_notes(text).split("\n"):
+        if line:
+            name, card_name, first, *bare = line.replace(":", "", 1).split()
+            assert bare in ([], ["bare"]), line
+            kind, _, entries = cards[card_name]
+            yield name, listed(kind, entries, int(first), bool(bare))
 
 
 def main():
     if len(sys.argv) != 2:
         sys.exit("usage: make.py FOLDER")
-    folder = pathlib.Path(sys.argv[1])
-    for name, stored in cards((pathlib.Path(__file__).parent / "cards.txt").read_text()):
-        (folder / f"{name}.card").write_bytes(stored)
+    folder, beside = pathlib.Path(sys.argv[1]), pathlib.Path(__file__).parent
+    cards = tables((beside / "cards.txt").read_text())
+    for name, said in cards.items():
+        (folder / f"{name}.card").write_bytes(card(*said))
+    for name, stored in lists((beside / "lists.txt").read_text(), cards):
+        (folder / f"{name}.list").write_bytes(stored)
 
 
 if __name__ == "__main__":

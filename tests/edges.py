@@ -12,7 +12,7 @@ sys.path.insert(0, str(pathlib.Path(__file__).parent.parent / "samples"))
 from make import block, card, number, of_table
 
 PAIR, SPAN = 1, 2
-S1 = of_table("AC[0,2] CA[1,3] AG[0,2] GA[1,3]")
+S1 = card(*of_table("AC[0,2] CA[1,3] AG[0,2] GA[1,3]"))
 
 
 def head(form=1, kind=SPAN, l=2, spare=0, m=4, rest=b"", index=0):

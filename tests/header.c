@@ -1,5 +1,5 @@
-/* header FOLDER: calls every function of include/belfrymist.h through it, on the cards S1, P1, P4, S5 and one-wider of FOLDER, and
- * looks at each answer and at every byte of each output. What is expected is stated here, from the scope document and requests 11 and 12. */
+/* header FOLDER: calls every function of include/belfrymist.h through it, on the cards S1, P1, P4, S5, one-wider and neighbours-span of FOLDER,
+ * and looks at each answer and at every byte of each output. What is expected is stated here, from the scope document and requests 2, 11 and 12. */
 #include <stdio.h>
 #include <stdlib.h>
 #include <string.h>
@@ -230,9 +230,68 @@ static void counting(const uint8_t *s1, const uint8_t *p1, const uint8_t *p4)
             0);
 }
 
+/* A text as a list, without the zero at its end. */
+#define LIST(text) (const uint8_t *)(text), sizeof(text) - 1
+
+static void importing(const uint8_t *p1, const uint8_t *neighbours)
+{
+    static const uint32_t words[] = {0, 0};
+    static const uint16_t ones[] = {0, 0}, twos[] = {1, BELFRYMIST_NO_SECOND_PLACE};
+    uint8_t out[CARD + GUARD], written[CARD];
+
+    memset(out, UNTOUCHED, sizeof out);
+    ANSWERS(belfrymist_write_answer, belfrymist_import(NULL, 0, out, CARD), BELFRYMIST_REFUSED_TEXT, 1, 0);
+    ANSWERS(belfrymist_write_answer, belfrymist_import(NULL, 0, NULL, 0), BELFRYMIST_REFUSED_TEXT, 1, 0);
+    ANSWERS(belfrymist_write_answer, belfrymist_import(LIST("AC\t1"), out, CARD), BELFRYMIST_REFUSED_TEXT, 1, 0);
+    ANSWERS(belfrymist_write_answer, belfrymist_import(LIST("AC\t1\r\n"), out, CARD), BELFRYMIST_REFUSED_TEXT, 1, 0);
+    ANSWERS(belfrymist_write_answer, belfrymist_import(LIST("AC\t1\nCA\t65536\n"), out, CARD), BELFRYMIST_REFUSED_TEXT, 2, 0);
+    ANSWERS(belfrymist_write_answer, belfrymist_import(LIST("AC\t1,2\nACA\t0-1\n"), out, CARD), BELFRYMIST_REFUSED_MIXED, 2, 0);
+    ANSWERS(belfrymist_write_answer, belfrymist_import(LIST("AC\t1,2\nACA\t0,1\n"), out, CARD), BELFRYMIST_REFUSED_UNEVEN, 2, 0);
+    ANSWERS(belfrymist_write_answer, belfrymist_import(LIST("AC\t1,2\nCA\t0,1\n"), out, CARD), BELFRYMIST_REFUSED_ZERO, 2, 0);
+    /* The card's rules carry the card's places; 12 comes last. */
+    ANSWERS(belfrymist_write_answer, belfrymist_import(LIST("A\t0\n"), out, 0), BELFRYMIST_REFUSED_ZERO, 1, 0);
+    ANSWERS(belfrymist_write_answer, belfrymist_import(LIST("A\t9\n"), out, 0), BELFRYMIST_REFUSED_WORD_LENGTH, 0, 0);
+    ANSWERS(belfrymist_write_answer, belfrymist_import(LIST("AAAAAAAAAAAAA\t1\n"), out, CARD), BELFRYMIST_REFUSED_WORD_LENGTH, 0, 0);
+    ANSWERS(belfrymist_write_answer, belfrymist_import(LIST("AC\t1\nCA\t3\n"), NULL, 0), BELFRYMIST_REFUSED_PLACES, 1, 0);
+    ANSWERS(belfrymist_write_answer, belfrymist_import(LIST("AC\t65535\n"), out, CARD), BELFRYMIST_REFUSED_PLACES, 0, 0);
+    ANSWERS(belfrymist_write_answer, belfrymist_import(LIST("AC\t1\n"), out, CARD - 1), BELFRYMIST_REFUSED_ROOM, 0, 0);
+    ANSWERS(belfrymist_write_answer, belfrymist_import(LIST("AC\t1\n"), NULL, 0), BELFRYMIST_REFUSED_ROOM, 0, 0);
+    WANT(untouched(out, 0, sizeof out));
+
+    ANSWERS(belfrymist_write_answer, belfrymist_import(LIST("AC\t1,3\nCA\t2,4\nAG\t1,3\nGA\t2,4\n"), out, CARD), 0, 0, CARD);
+    WANT(memcmp(out, p1, CARD) == 0 && untouched(out, CARD, sizeof out));
+    /* A number alone on a span list, and on a pair list. */
+    memset(out, UNTOUCHED, sizeof out);
+    ANSWERS(belfrymist_write_answer, belfrymist_import(LIST("GAT\t1\nATT\t2-3\nTTA\t2-3\nTAC\t4-5\nACA\t4-5\n"), out, sizeof out), 0, 0, CARD);
+    WANT(memcmp(out, neighbours, CARD) == 0 && untouched(out, CARD, sizeof out));
+    ANSWERS(belfrymist_write_answer, belfrymist_write(BELFRYMIST_PAIR, 2, words, 2, ones, 2, twos, 2, written, CARD), 0, 0, CARD);
+    ANSWERS(belfrymist_write_answer, belfrymist_import(LIST("AA\t1,2\nAA\t1\n"), out, CARD), 0, 0, CARD);
+    WANT(memcmp(out, written, CARD) == 0);
+}
+
+static void exporting(const uint8_t *p1, const uint8_t *neighbours)
+{
+    static const char of_p1[] = "AC\t1,3\nCA\t2,4\nAG\t1,3\nGA\t2,4\n";
+    static const char of_neighbours[] = "GAT\t1-1\nATT\t2-3\nTTA\t2-3\nTAC\t4-5\nACA\t4-5\n";
+    enum { P1 = sizeof of_p1 - 1, NEIGHBOURS = sizeof of_neighbours - 1 };
+    uint8_t out[NEIGHBOURS + GUARD];
+
+    memset(out, UNTOUCHED, sizeof out);
+    ANSWERS(belfrymist_write_answer, belfrymist_export(NULL, 0, NULL, 0), BELFRYMIST_REFUSED_SHORT, 0, 0);
+    ANSWERS(belfrymist_write_answer, belfrymist_export(p1, CARD - 1, out, 0), BELFRYMIST_REFUSED_SIZE, 0, 0);
+    ANSWERS(belfrymist_write_answer, belfrymist_export(p1, CARD, out, P1 - 1), BELFRYMIST_REFUSED_ROOM, 0, 0);
+    ANSWERS(belfrymist_write_answer, belfrymist_export(p1, CARD, NULL, 0), BELFRYMIST_REFUSED_ROOM, 0, 0);
+    WANT(untouched(out, 0, sizeof out));
+    ANSWERS(belfrymist_write_answer, belfrymist_export(p1, CARD, out, P1), 0, 0, P1);
+    WANT(memcmp(out, of_p1, P1) == 0 && untouched(out, P1, sizeof out));
+    memset(out, UNTOUCHED, sizeof out);
+    ANSWERS(belfrymist_write_answer, belfrymist_export(neighbours, CARD, out, sizeof out), 0, 0, NEIGHBOURS);
+    WANT(memcmp(out, of_neighbours, NEIGHBOURS) == 0 && untouched(out, NEIGHBOURS, sizeof out));
+}
+
 int main(int count, char **arguments)
 {
-    uint8_t s1[CARD], p1[CARD], p4[CARD], s5[CARD], wider[CARD], s1_before[CARD];
+    uint8_t s1[CARD], p1[CARD], p4[CARD], s5[CARD], wider[CARD], neighbours[CARD], s1_before[CARD];
 
     if (count != 2)
         return 2;
@@ -241,6 +300,7 @@ int main(int count, char **arguments)
     read_card(arguments[1], "p4", p4);
     read_card(arguments[1], "s5", s5);
     read_card(arguments[1], "one-wider", wider);
+    read_card(arguments[1], "neighbours-span", neighbours);
     memcpy(s1_before, s1, CARD);
     reading(s1);
     blocks(s1);
@@ -248,6 +308,8 @@ int main(int count, char **arguments)
     building(s1, p1, s5);
     settling(s1, p1, s5, wider);
     counting(s1, p1, p4);
+    importing(p1, neighbours);
+    exporting(p1, neighbours);
     WANT(memcmp(s1, s1_before, CARD) == 0);
     printf("header: %d asked, %d wrong\n", asked, wrong);
     return wrong != 0;

@@ -16,10 +16,10 @@ static ucontext_t here, there;
 static const uint8_t *lowest_own;
 static void (*call)(void);
 
-static uint8_t card[BELFRYMIST_MOST_CARD + 1], out[BELFRYMIST_MOST_CARD];
+static uint8_t card[BELFRYMIST_MOST_CARD + 1], out[BELFRYMIST_MOST_CARD], list[BELFRYMIST_MOST_LIST];
 static uint32_t words[BELFRYMIST_MOST_ENTRIES];
 static uint16_t ones[BELFRYMIST_MOST_ENTRIES], twos[BELFRYMIST_MOST_ENTRIES];
-static size_t length, m, kind, l;
+static size_t length, list_length, m, kind, l;
 static volatile size_t seen;
 
 static void on_own_stack(void)
@@ -56,6 +56,8 @@ static void settle_card(void) { seen = belfrymist_settle(card, length, out, size
 static void settle_lists(void) { seen = belfrymist_settle_lists(kind, l, words, m, ones, m, twos, m, out, sizeof out).verdict; }
 static void count_card(void) { seen = belfrymist_count(card, length).any; }
 static void count_lists(void) { seen = belfrymist_count_lists(kind, l, words, m, ones, m, twos, m).any; }
+static void export_card(void) { list_length = belfrymist_export(card, length, list, sizeof list).length; }
+static void import_list(void) { seen = belfrymist_import(list, list_length, out, sizeof out).length; }
 
 /* Takes up a card that stands in `card`, its entries in the lists. */
 static void take_up(void)
@@ -73,7 +75,7 @@ static void take_up(void)
     }
 }
 
-static size_t most_reading, most_building, most_settling, most_counting;
+static size_t most_reading, most_building, most_settling, most_counting, most_importing;
 
 /* The most that any of the calls takes, or what was the most before. */
 static size_t most_of(size_t most, void (*const *calls)(void), size_t count)
@@ -89,8 +91,8 @@ static size_t most_of(size_t most, void (*const *calls)(void), size_t count)
 static void measure(void)
 {
     static void (*const building[])(void) = {build}, (*const settling[])(void) = {settle_card, settle_lists};
-    static void (*const counting[])(void) = {count_card, count_lists};
-    static void (*const reading[])(void) = {admit, entry, step, companion, fetch, written};
+    static void (*const counting[])(void) = {count_card, count_lists}, (*const importing[])(void) = {import_list};
+    static void (*const reading[])(void) = {admit, entry, step, companion, fetch, written, export_card};
     most_building = most_of(most_building, building, 1);
     take_up();
     if (m == 0)
@@ -98,6 +100,7 @@ static void measure(void)
     most_settling = most_of(most_settling, settling, 2);
     most_counting = most_of(most_counting, counting, 2);
     most_reading = most_of(most_reading, reading, sizeof reading / sizeof *reading);
+    most_importing = most_of(most_importing, importing, 1);
 }
 
 /* A full pair card: the words of A and C by turns, each at its own place or two places on. */
@@ -170,9 +173,10 @@ int main(int count, char **names)
     if (!take_up_remembered())
         return 3;
     measure();
-    printf("stack: at most %zu bytes to build, %zu to settle, %zu to count and %zu for other calls; the header says %d, %d, %d and %d\n",
-           most_building, most_settling, most_counting, most_reading, BELFRYMIST_STACK, BELFRYMIST_STACK_SETTLING, BELFRYMIST_STACK_COUNTING,
-           BELFRYMIST_STACK_READING);
+    printf("stack: at most %zu bytes to build, %zu to settle, %zu to count, %zu to import and %zu for other calls; the header says %d, %d, %d, %d "
+           "and %d\n",
+           most_building, most_settling, most_counting, most_importing, most_reading, BELFRYMIST_STACK, BELFRYMIST_STACK_SETTLING,
+           BELFRYMIST_STACK_COUNTING, BELFRYMIST_STACK_IMPORTING, BELFRYMIST_STACK_READING);
     return !(most_building <= BELFRYMIST_STACK && most_settling <= BELFRYMIST_STACK_SETTLING && most_counting <= BELFRYMIST_STACK_COUNTING &&
-             most_reading <= BELFRYMIST_STACK_READING);
+             most_importing <= BELFRYMIST_STACK_IMPORTING && most_reading <= BELFRYMIST_STACK_READING);
 }

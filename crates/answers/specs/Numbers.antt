@@ -57,6 +57,22 @@ Lists = 13
 abbrev pub Absent : ℕ
 Absent = 14
 
+-- request 2: "also an empty word, a number above 65,535 or with a needless leading zero, or an empty list at line 1"
+abbrev pub Text : ℕ
+Text = 23
+
+-- request 2: "at the first line whose mark differs from an earlier one"
+abbrev pub Mixed : ℕ
+Mixed = 24
+
+-- request 2: "where a word's length isn't l"
+abbrev pub Uneven : ℕ
+Uneven = 25
+
+-- request 2: "for place 0"
+abbrev pub Zero : ℕ
+Zero = 26
+
 -- request 11: "Wider with the first entry over 4"
 abbrev pub Wider : ℕ
 Wider = 30

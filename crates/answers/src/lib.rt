@@ -40,4 +40,12 @@ pub const LISTS: usize = 13;
 
 pub const ABSENT: usize = 14;
 
+pub const TEXT: usize = 23;
+
+pub const MIXED: usize = 24;
+
+pub const UNEVEN: usize = 25;
+
+pub const ZERO: usize = 26;
+
 pub const WIDER: usize = 30;

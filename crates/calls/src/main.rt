@@ -1,5 +1,5 @@
-// Runs stored records, each of which counts the builds of a card or of lists, or settles a card or lists, and prints a line for each. The
-// records stand on standard input, one after the other: a tag byte, and then the record's fields, little-endian.
+// Runs stored records, each of which counts the builds of a card or of lists, settles a card or lists, or imports or exports a list, and prints a
+// line for each. The records stand on standard input, one after the other: a tag byte, and then the record's fields, little-endian.
 //     C n bytes    counts the builds of the card of the n bytes after it
 //     L kind l a b c words ones twos
 //                  counts the builds of lists of a words (four bytes each), b places one and c places two (two bytes each)
@@ -9,10 +9,22 @@
 //     T kind l a b c room words ones twos
 //                  settles such lists into such an output
 //                                       `sole LENGTH PLACEMENTS HASH` or `several`, or `none PLACEMENTS HASH`
-// A call that refuses prints `refused N P`, for S and T with the hash of the whole output after it. n has four bytes, and is at most 6,400;
-// kind and l have eight; a, b, c and `room` have two, and are at most 600. A record that is none of these, or is cut, ends the run with the
-// line `bad record`.
+//     I n room bytes
+//                  imports the list of the n bytes after it into such an output
+//                                       `card LENGTH HASH`
+//     X n room bytes
+//                  exports the card of the n bytes after it into such an output
+//                                       `list LENGTH HASH`
+//     Y n bytes    exports the card of the n bytes after it, and imports its list into an output of 6,400 bytes
+//                                       `again LENGTH HASH`
+//     Z kind l m words ones twos
+//                  writes the card of lists of m slots each, exports it, and imports its list in the same way
+//                                       `list LENGTH HASH again LENGTH HASH`
+// A call that refuses prints `refused N P`, for all but C and L with the hash of the whole output after it. n has four bytes, and is at most
+// 6,400, for I 16,384; kind and l have eight; a, b, c, m and `room` have two, and are at most 600, but `room` for I 6,400 and for X 16,384. A
+// record that is none of these, or is cut, ends the run with the line `bad record`.
 mod count;
+mod listing;
 mod settle;
 
 ghost use Prim.Native.Nat.{_≤_};
@@ -29,8 +41,9 @@ fn bytes_of(tag: u8) -> usize
     ensures { λ r. ⌜ r ≤ fieldBytes ⌝ }
 {
     match tag {
-        b'C' => 4,
-        b'S' => 6,
+        b'C' | b'Y' => 4,
+        b'S' | b'I' | b'X' => 6,
+        b'Z' => 18,
         b'L' => 22,
         b'T' => FIELDS,
         _ => 0,
@@ -44,6 +57,10 @@ fn run(tag: u8, fields: &[u8; FIELDS]) -> bool {
         b'L' => count::of_lists(fields),
         b'S' => settle::of_card(fields),
         b'T' => settle::of_lists(fields),
+        b'I' => listing::of_list(fields),
+        b'X' => listing::of_card(fields),
+        b'Y' => listing::again_of_card(fields),
+        b'Z' => listing::again_of_lists(fields),
         _ => false,
     }
 }

@@ -21,6 +21,10 @@ use Rattle.firmware.proofs.belfrymist_fetch.Kinds as fetch
 use Rattle.firmware.proofs.belfrymist_fetch.Reads as fetch-reads
 use Rattle.firmware.proofs.writing.belfrymist_write.Kinds as write
 use Rattle.firmware.proofs.writing.belfrymist_write.Reads as write-reads
+use Rattle.firmware.proofs.listing.belfrymist_import.Kinds as import
+use Rattle.firmware.proofs.listing.belfrymist_import.Reads as import-reads
+use Rattle.firmware.proofs.listing.belfrymist_export.Kinds as export
+use Rattle.firmware.proofs.listing.belfrymist_export.Reads as export-reads
 use Rattle.firmware.proofs.building.belfrymist_build.Kinds as build
 use Rattle.firmware.proofs.building.belfrymist_build.Reads as build-reads
 use Rattle.firmware.proofs.settle.belfrymist_settle.Kinds as settle
@@ -62,6 +66,15 @@ module _ (κs : Lfts 1) where
 pub write-one : (κs : Lfts 4) (a : Dens κs write.ps) (r r′ : resT write.r κs .Denot) (e e′ : AtExit (endedOf 4 write.ps write.r) κs)
     → write-reads.Post κs a r e → write-reads.Post κs a r′ e′ → (r ≡ r′) × (now (e .1 .1 .1 .1 .1 .0) ≡ now (e′ .1 .1 .1 .1 .1 .0))
 write-one κs a r r′ e e′ p q = (p .0 ∙ sym (q .0), p .1 ∙ sym (q .1))
+
+-- what importing a list answers, and exporting a card, and the output afterwards
+pub import-one : (κs : Lfts 2) (a : Dens κs import.ps) (r r′ : resT import.r κs .Denot) (e e′ : AtExit (endedOf 2 import.ps import.r) κs)
+    → import-reads.Post κs a r e → import-reads.Post κs a r′ e′ → (r ≡ r′) × (now (e .1 .0) ≡ now (e′ .1 .0))
+import-one κs a r r′ e e′ p q = (p .0 ∙ sym (q .0), p .1 ∙ sym (q .1))
+
+pub export-one : (κs : Lfts 2) (a : Dens κs export.ps) (r r′ : resT export.r κs .Denot) (e e′ : AtExit (endedOf 2 export.ps export.r) κs)
+    → export-reads.Post κs a r e → export-reads.Post κs a r′ e′ → (r ≡ r′) × (now (e .1 .0) ≡ now (e′ .1 .0))
+export-one κs a r r′ e e′ p q = (p .0 ∙ sym (q .0), p .1 ∙ sym (q .1))
 
 -- what build answers, and the output afterwards
 pub build-one : (κs : Lfts 2) (a : Dens κs build.ps) (r r′ : resT build.r κs .Denot) (e e′ : AtExit (endedOf 2 build.ps build.r) κs)

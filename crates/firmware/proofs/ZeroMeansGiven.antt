@@ -20,6 +20,10 @@ use Rattle.lists.specs.Lists.{listsTests}
 use Rattle.lists.proofs.Laws.{lists-numbered}
 use Rattle.writer.specs.Writing.{writing}
 use Rattle.writer.proofs.RefusalNumbers.{writing-number}
+use Rattle.importing.specs.Importing.{importing}
+use Rattle.importing.proofs.RefusalNumbers.{importing-number}
+use Rattle.exporting.specs.Exporting.{exporting}
+use Rattle.exporting.proofs.RefusalNumbers.{exporting-number}
 use Rattle.sequence.specs.Many.{Power, two-to, no-build}
 use Rattle.sequence.specs.Verdict.{sole, several, noBuild, Outcome, settled, unsettled}
 use Rattle.builds.specs.Building.{buildTests, slotsOn, Says, tells, refuses}
@@ -53,6 +57,18 @@ pub write-tells : (limit kind l : ℕ) (words ones twos : List ℕ) (room : ℕ)
     → writing limit kind l words ones twos room ≡ refused n p
     → 0 < writeAnswer (writing limit kind l words ones twos room) .number
 write-tells limit kind l words ones twos room e = rw e (writing-number limit kind l words ones twos room e)
+
+pub import-tells : (limit : ℕ) (text : List ℕ) (room : ℕ) {n p : ℕ} → importing limit text room ≡ refused n p
+    → 0 < writeAnswer (importing limit text room) .number
+import-tells limit text room e = rw e (importing-number limit text room e)
+
+pub export-tells : (limit : ℕ) (card : List ℕ) (room : ℕ) {n p : ℕ} → exporting limit card room ≡ refused n p
+    → 0 < writeAnswer (exporting limit card room) .number
+export-tells limit card room e = rw e (exporting-number limit card room e)
+
+-- and of these three what is given has 0
+pub write-zero : {a : Answer ℕ} {n : ℕ} → a ≡ given n → writeAnswer a .number ≡ 0
+write-zero e = rw e refl
 
 -- ---- build, whose contract is a relation: both ways
 

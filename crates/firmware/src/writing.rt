@@ -1,21 +1,55 @@
 // The writer, for C.
 ghost use mathlib.Core.Path.{_≡_};
 ghost use lib.ListN.{length};
+ghost use Rattle.answers.specs.Answer.{given, refused};
 ghost use Rattle.layout.specs.Bounds.{mostEntries};
 ghost use Rattle.layout.specs.Card.{cardOf};
 ghost use Rattle.lists.specs.Lists.{formatFor};
-ghost use Rattle.writer.specs.Writing.{writing, outputAfter};
+ghost use Rattle.writer.specs.Writing.{writing, saysWritten, outputAfter};
 ghost use Rattle.entries.specs.Slot.{slotFrom};
 ghost use Rattle.firmware.specs.Flat.{writeAnswer};
+use answers::Refusal;
 use writer::Written;
 
-// What writing answers. The number is 0 for a card that was written, with its length in bytes; else it is the refusal's, with its place,
-// and the length is 0.
+// What writing, importing and exporting answer. The number is 0 where a card or a list was written, with its length in bytes; else it is the
+// refusal's, with its place, and the length is 0.
 #[repr(C)]
 pub struct WriteAnswer {
     pub number: usize,
     pub place: usize,
     pub length: usize,
+}
+
+// So many bytes were written.
+pub fn wrote(length: usize) -> WriteAnswer
+    ensures { λ r. ⌜ r ≡ writeAnswer (given length) ⌝ }
+{
+    WriteAnswer {
+        number: 0,
+        place: 0,
+        length,
+    }
+}
+
+// Nothing was.
+pub fn refused(r: Refusal) -> WriteAnswer
+    ensures { λ a. ⌜ a ≡ writeAnswer (refused (r .number) (r .place)) ⌝ }
+{
+    WriteAnswer {
+        number: r.number,
+        place: r.place,
+        length: 0,
+    }
+}
+
+// What the writer answers, as numbers.
+pub fn flat(w: Written) -> WriteAnswer
+    ensures { λ r. ⌜ r ≡ writeAnswer (saysWritten w) ⌝ }
+{
+    match w {
+        Written::Card(n) => wrote(n),
+        Written::Refused(r) => refused(r),
+    }
 }
 
 // A card of the lists at the start of the output, whose later bytes are as they were; or the first rule that is broken, and then no byte of
@@ -40,16 +74,5 @@ pub extern "C" fn belfrymist_write(
         (writing mostEntries kind l (now (words .entry)) (now (ones .entry)) (now (twos .entry)) (length (now (out .entry))))
         ⌝ }
 {
-    match writer::write(kind, l, words, ones, twos, out) {
-        Written::Card(n) => WriteAnswer {
-            number: 0,
-            place: 0,
-            length: n,
-        },
-        Written::Refused(r) => WriteAnswer {
-            number: r.number,
-            place: r.place,
-            length: 0,
-        },
-    }
+    flat(writer::write(kind, l, words, ones, twos, out))
 }

@@ -1,10 +1,14 @@
--- How much of standard input a program reads, where all of it is a card. `limit` is the most entries that a card may have.
---   programBytes limit       == the most bytes that it reads
+-- How much of standard input a program reads, where all of it is a card or a list. `limit` is the most entries that a card may have.
+--   programBytes limit       == the most bytes that it reads of a card
+--   mostList                 == the most bytes of a list that it takes; it reads one more, so that a longer list is seen
 -- Assumes nothing.
 use Prim.Native.Nat.{ℕ, _+_}
 use Rattle.layout.specs.Layout.{sizeOf}
 
 -- "All of standard input is the card, so bytes after it give 9.": one byte more than the longest card has is enough to see that
--- (crates/lines/proofs/LongInput.antt)
+-- (`FrontLaws` of `card`)
 abbrev pub programBytes : ℕ → ℕ
 programBytes limit = sizeOf limit + 1
+
+abbrev pub mostList : ℕ
+mostList = 1048576

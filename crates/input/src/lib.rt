@@ -1,4 +1,6 @@
-// The card that a program is given: all of standard input, or as much of it as an answer can depend on.
+// The card that a program is given: all of standard input, or as much of it as an answer can depend on. A list that it is given is `list`.
+pub mod list;
+
 ghost use mathlib.Core.Path.{_≡_};
 ghost use Prim.Native.Nat.{_≤_};
 ghost use lib.ListN.{length};

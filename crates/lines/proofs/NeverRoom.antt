@@ -2,26 +2,19 @@
 -- the line `refused 12 0` is never printed. Assumes nothing.
 use mathlib.Core.Path.{_≡_, refl, sym, ap, _∙_}
 use mathlib.Core.Logic.{_⊎_, inl, inr, ⊎-elim}
-use mathlib.Core.Bool.{Bool, true, false, _&&_}
-use mathlib.Core.List.{List, [], _∷_, _++_}
-use Prim.Native.Nat.{ℕ, zero, suc, _+_, _/_, _%_, _≤_, _<_}
+use mathlib.Core.List.{List, _∷_, _++_}
+use Prim.Native.Nat.{ℕ, _+_, _/_, _%_, _≤_, _<_}
 use Prim.Native.Char.{code}
 use native.Mathlib.Omega.{arith}
-use lib.Dec.{ltb}
 use lib.ListN.{length, getD}
-use borrow.Author.Tests.{ltb-true}
-use Rattle.answers.specs.Numbers.{Spare, Room, Wider}
-use Rattle.answers.specs.Answer.{Answer, given, refused, Sound, sound, Test, test, first}
-use Rattle.answers.specs.Row.{inTurn}
+use Rattle.answers.specs.Numbers.{Room, Wider}
+use Rattle.answers.specs.Answer.{Answer, given, refused, Sound, sound, first}
 use Rattle.answers.proofs.Laws.{given-not-refused}
-use Rattle.answers.proofs.Tests.{both}
-use Rattle.block.specs.Block.{blockAt, blockTests}
 use Rattle.entries.specs.declared.Format.{Format}
-use Rattle.entries.specs.Slot.{slotAt}
-use Rattle.entries.specs.Fault.{entryTests}
-use Rattle.layout.specs.Layout.{toldBy, entryBlocks, entriesBefore, entriesIn, slotsSpare}
-use Rattle.card.specs.Reading.{fieldTests, headTests, slotsTests, laterTests, readingOrder}
+use Rattle.layout.specs.Layout.{toldBy}
+use Rattle.card.specs.Reading.{readingOrder}
 use Rattle.card.proofs.FetchingLaws.{order-admits}
+use Rattle.card.proofs.NumberLaws.{reader-below}
 use Rattle.sequence.specs.Verdict.{sole, several, noBuild, Outcome, settled, unsettled}
 use Rattle.sequence.proofs.FillingLaws.{lt-or-le}
 use Rattle.builds.specs.Building.{buildTests, Says, refuses}
@@ -36,45 +29,6 @@ use Rattle.lines.specs.Lines.{programBudget, lettersRoom, cardLine, line
 use Rattle.lines.specs.SettleLines.{SettleReports}
 use Rattle.text.proofs.DecimalLaws.{decimal-one, decimal-more}
 
--- ---- the reader's numbers
-
--- whether each of these tests refuses by a number below 12
-abbrev below : List Test → Bool
-below [] = true
-below (test ok n p ∷ ts) = ltb n Room && below ts
-
-below-append : (xs ys : List Test) → below xs ≡ true → below ys ≡ true → below (xs ++ ys) ≡ true
-below-append [] ys h g = g
-below-append (test ok n p ∷ xs) ys h g =
-    let parts = both (ltb n Room) (below xs) h in rw (parts .0) (below-append xs ys (parts .1) g)
-
-below-turns : (f : ℕ → List Test) → ((k : ℕ) → below (f k) ≡ true) → (n k : ℕ) → below (inTurn f k n) ≡ true
-unfolding inTurn
-below-turns f each zero k = refl
-below-turns f each (suc n) k = below-append (f k) (inTurn f (suc k) n) (each k) (below-turns f each n (suc k))
-
-below-refused : (ts : List Test) {n p : ℕ} → below ts ≡ true → first ts sound ≡ refused n p → n < Room
-unfolding first
-below-refused [] h e = let z : _≡_ {A = ℕ} 0 1 = cc in absurd (omega arith)
-below-refused (test true k p ∷ ts) h e = below-refused ts (both (ltb k Room) (below ts) h .1) e
-below-refused (test false k p ∷ ts) {n} h e =
-    let same : k ≡ n = cc in rw same at (ltb-true k Room (both (ltb k Room) (below ts) h .0))
-
-slots-below : (f : Format) (b : List ℕ) (e n : ℕ) → below (slotsTests f b e n) ≡ true
-unfolding slotsTests entryTests
-slots-below f b e n = below-turns (λ j. entryTests f (e + j) (slotAt b j)) (λ j. refl) n 0
-
-later-below : (f : Format) (card : List ℕ) (k : ℕ) → below (laterTests f card k) ≡ true
-unfolding laterTests blockTests
-later-below f card k =
-    let n = entriesIn (f .m) k in
-    below-append (slotsTests f (blockAt card k) (entriesBefore k) n) (test (slotsSpare (blockAt card k) n) Spare k ∷ [])
-    (slots-below f (blockAt card k) (entriesBefore k) n) refl
-
-order-below : (limit : ℕ) (card : List ℕ) → below (readingOrder limit card) ≡ true
-unfolding readingOrder headTests blockTests fieldTests
-order-below limit card = below-turns (laterTests (toldBy card) card) (later-below (toldBy card) card) (entryBlocks (toldBy card .m)) 1
-
 -- ---- 12 is not due
 
 module _ (limit : ℕ) (card : List ℕ) {n p : ℕ} where
@@ -88,7 +42,7 @@ module _ (limit : ℕ) (card : List ℕ) {n p : ℕ} where
           absurd (given-not-refused (sym room ∙ e))
       go (refused k q) stops =
           let same : k ≡ n = cc (reader-refuses limit card (lettersRoom limit) stops) in
-          rw same at (below-refused (readingOrder limit card) (order-below limit card) stops)
+          rw same at (reader-below limit card sound stops)
 
 said-below : {limit n p : ℕ} {card : List ℕ} → Says limit card programBudget (lettersRoom limit) (refused n p) → n < Room
 said-below {limit} {card = card} (refuses e) = room-enough limit card e
@@ -109,7 +63,7 @@ settle-never-said limit card says = ⊎-elim (λ h. omega arith) (λ h. omega (a
 -- nor from counting builds, which tests no room
 pub count-never-said : (limit : ℕ) (card : List ℕ) {n p : ℕ} → OfCard limit card (refused n p) → n < Room
 count-never-said limit card (counting.refuses e) =
-    ⊎-elim (below-refused (readingOrder limit card) (order-below limit card)) (λ h. omega (arith, h .1)) (refusals (readingOrder limit card) _ e)
+    ⊎-elim (reader-below limit card sound) (λ h. omega (arith, h .1)) (refusals (readingOrder limit card) _ e)
 
 -- ---- nor is it printed
 

@@ -11,8 +11,8 @@ use Rattle.block.specs.Block.{blockBytes}
 use Rattle.entries.specs.declared.Format.{Format}
 use Rattle.builds.specs.declared.BuildAnswer.{BuildAnswer}
 use Rattle.builds.specs.declared.BuildAnswer.the-variants.{Sole, Several, None, Unsettled, Refused}
-use Rattle.text.specs.Text.{ascii, decimal, line}
-use Rattle.lines.specs.Lines.{cardLine, refusalLine}
+use Rattle.text.specs.Text.{ascii, decimal, line, refusalLine}
+use Rattle.lines.specs.Lines.{cardLine}
 
 abbrev pub linesBy : Format → BuildAnswer → List ℕ → List ℕ
 linesBy f (Sole n k) letters = cardLine f ++ line (ascii "sole") (take n letters ∷ decimal k ∷ [])

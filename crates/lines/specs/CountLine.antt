@@ -11,8 +11,7 @@ use Rattle.sequence.specs.Many.{Power}
 use Rattle.counting.specs.declared.Number.{Number}
 use Rattle.counting.specs.declared.Number.the-variants as is
 use Rattle.counting.specs.Counting.{OfCard, numberOf, Counts}
-use Rattle.text.specs.Text.{ascii, decimal, line}
-use Rattle.lines.specs.Lines.{refusalLine}
+use Rattle.text.specs.Text.{ascii, decimal, line, refusalLine}
 
 -- "the number is 0 or a power of two, and the exponent is given, or that there is none"
 abbrev pub lineBy : Number → List ℕ

@@ -3,7 +3,6 @@
 --   lettersRoom limit        == the room that it lends for the letters: those of the longest sequence
 --   kindName kind            == `pair` or `span`
 --   cardLine f               == line 1, of a card of this format
---   refusalLine n p          == the one line of a refusal
 --   linesOf f a              == all that is printed, where a is what is said of a card of this format
 --   ReportsBy Says card bytes
 --                            == what is printed for the card, where Says tells what is said of it
@@ -21,7 +20,7 @@ use Rattle.entries.specs.Fault.{pair, mostLength}
 use Rattle.layout.specs.Layout.{toldBy}
 use Rattle.sequence.specs.Verdict.{sole, several, noBuild, Outcome, settled, unsettled}
 use Rattle.builds.specs.Building.{Says}
-use Rattle.text.specs.Text.{ascii, decimal, line}
+use Rattle.text.specs.Text.{ascii, decimal, line, refusalLine}
 
 -- "uses budget 1,000,000"
 abbrev pub programBudget : ℕ
@@ -38,10 +37,6 @@ kindName kind = cond (eqb kind pair) (ascii "pair") (ascii "span")
 -- "Line 1: kind (`pair` or `span`), l, m."
 unfoldable pub cardLine : Format → List ℕ
 cardLine f = line (ascii "CARD") (kindName (f .kind) ∷ decimal (f .l) ∷ decimal (f .m) ∷ [])
-
--- "A refused card gives the one line `refused N P`, number and place."
-abbrev pub refusalLine : ℕ → ℕ → List ℕ
-refusalLine n p = line (ascii "refused") (decimal n ∷ decimal p ∷ [])
 
 -- "Line 2: verdict, sequence, placements. Other second lines are `sole` with the same fields, and `none` or `unsettled` with placements."
 unfoldable pub linesOf : Format → Answer Outcome → List ℕ

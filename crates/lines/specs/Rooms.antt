@@ -11,10 +11,6 @@ nameBytes = 4
 abbrev pub cardRoom : ℕ
 cardRoom = 5 + nameBytes + 3 + mostDigits + mostDigits
 
--- the line of a refusal: `refused`, two numbers with a space before each, and the end
-abbrev pub refusalRoom : ℕ
-refusalRoom = 7 + 3 + mostDigits + mostDigits
-
 -- the line of a number of builds: `builds 2^`, the exponent, and the end
 abbrev pub powerRoom : ℕ
 powerRoom = 9 + mostDigits + 1

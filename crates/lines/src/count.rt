@@ -29,6 +29,6 @@ pub fn report(card: &[u8], out: &mut [u8; LINE]) -> usize
     match counting::count_card(card) {
         Number::Power(k) => put_power(out, k),
         Number::None => text::put_text(out, 0, b"builds 0\n"),
-        Number::Refused(r) => crate::put_refused(out, r),
+        Number::Refused(r) => text::put_refused(out, r),
     }
 }

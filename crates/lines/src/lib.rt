@@ -11,10 +11,9 @@ ghost use Rattle.layout.specs.Layout.{toldBy};
 ghost use Rattle.layout.specs.Bounds.{mostEntries};
 ghost use Rattle.text.specs.Text.{decimal, line, Printed};
 ghost use Rattle.text.specs.Putting.{mostDigits, Put};
-ghost use Rattle.lines.specs.Lines.{lettersRoom, kindName, cardLine, refusalLine, Reports};
+ghost use Rattle.lines.specs.Lines.{lettersRoom, kindName, cardLine, Reports};
 ghost use Rattle.lines.specs.ByAnswer.{linesBy, Tellable};
-ghost use Rattle.lines.specs.Rooms.{nameBytes, cardRoom, refusalRoom};
-use answers::Refusal;
+ghost use Rattle.lines.specs.Rooms.{nameBytes, cardRoom};
 use builds::BuildAnswer;
 
 // The budget that `build` uses.
@@ -69,15 +68,6 @@ fn put_placements(out: &mut [u8], at: usize, verdict: &[u8], n: u32) -> usize
     text::put_last(out, n_at, n as usize)
 }
 
-// The one line of a refusal.
-pub fn put_refused(out: &mut [u8], r: Refusal) -> usize
-    requires { ⌜ refusalRoom ≤ length (now out) ⌝ }
-    ensures { λ n. ⌜ Put (refusalLine (r .number) (r .place)) 0 (now (out .entry)) n (now (out .exit)) ⌝ }
-{
-    let number_at = text::put_text(out, 0, b"refused");
-    text::put_two(out, number_at, r.number, r.place)
-}
-
 // Both lines, with a sequence.
 fn put_card_sequence(out: &mut [u8], card: &[u8], verdict: &[u8], letters: &[u8], n: u32) -> usize
     requires { ⌜ blockBytes ≤ length (now card) ⌝ }
@@ -115,7 +105,7 @@ fn put_answer(out: &mut [u8; LINES], card: &[u8], answer: BuildAnswer, letters: 
         BuildAnswer::Several(n, k) => put_card_sequence(out, card, b"several", &letters[..n], k),
         BuildAnswer::None(k) => put_card_placements(out, card, b"none", k),
         BuildAnswer::Unsettled(k) => put_card_placements(out, card, b"unsettled", k),
-        BuildAnswer::Refused(r) => put_refused(out, r),
+        BuildAnswer::Refused(r) => text::put_refused(out, r),
     }
 }
 

@@ -13,6 +13,9 @@ slots = 600
 abbrev pub room : ℕ
 room = 6400
 
+abbrev pub textRoom : ℕ
+textRoom = 16384
+
 -- what a word, a place and a byte of what is lent are before the call
 abbrev pub oldWord : ℕ
 oldWord = 305419896

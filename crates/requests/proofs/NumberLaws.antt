@@ -1,12 +1,11 @@
 -- No test of building refuses by 30, so that it is the refusal of a width. Assumes nothing.
 use mathlib.Core.Path.{_≡_}
-use mathlib.Core.Bool.{Bool, true, false}
-use mathlib.Core.List.{List, [], _∷_, _++_}
-use Prim.Native.Nat.{ℕ, zero, suc, _<_}
+use mathlib.Core.List.{List}
+use Prim.Native.Nat.{ℕ, _<_}
 use native.Mathlib.Omega.{arith}
 use Rattle.answers.specs.Numbers.{Short, Check, Index, Form, Kind, Length, Count, Spare, Size, Word, Places, Room, Wider}
-use Rattle.answers.specs.Answer.{Test, test, refused, first, sound}
-use Rattle.answers.specs.Row.{inTurn}
+use Rattle.answers.specs.Answer.{refused, first, sound}
+use Rattle.answers.proofs.Below.{Below, none, also, below-append, below-turns, below-refused}
 use Rattle.block.specs.Block.{blockAt, blockTests}
 use Rattle.entries.specs.declared.Format.{Format}
 use Rattle.entries.specs.declared.Slot.{Slot}
@@ -16,44 +15,22 @@ use Rattle.layout.specs.Layout.{toldBy, entryBlocks}
 use Rattle.card.specs.Reading.{fieldTests, headTests, slotsTests, laterTests, readingOrder}
 use Rattle.builds.specs.Building.{buildTests}
 
--- each of these tests refuses by a number below 30
-data Below : List Test → Type 0 where
-  none : Below []
-  also : {ok : Bool} {n p : ℕ} {ts : List Test} → n < Wider → Below ts → Below (test ok n p ∷ ts)
-
-below-append : {xs ys : List Test} → Below xs → Below ys → Below (xs ++ ys)
-below-append none more = more
-below-append (also h rest) more = also h (below-append rest more)
-
-below-turns : {f : ℕ → List Test} → ((k : ℕ) → Below (f k)) → (k n : ℕ) → Below (inTurn f k n)
-unfolding inTurn
-below-turns each k zero = none
-below-turns each k (suc n) = below-append (each k) (below-turns each (suc k) n)
-
-below-refused : {ts : List Test} → Below ts → {n p : ℕ} → first ts sound ≡ refused n p → n < Wider
-unfolding first
-below-refused none e = let z : _≡_ {A = ℕ} 0 1 = cc in absurd (omega arith)
-below-refused (also {ok = true} h rest) e = below-refused rest e
-below-refused (also {ok = false} {n = k} h rest) {n} e = let same : k ≡ n = cc in rw same at h
-
--- ---- the reader's, and build's
-
-block-below : (b : List ℕ) (k : ℕ) → Below (blockTests b k)
+block-below : (b : List ℕ) (k : ℕ) → Below Wider (blockTests b k)
 unfolding blockTests
 block-below b k = also {n = Check} (omega arith) (also {n = Index} (omega arith) none)
 
-entry-below : (f : Format) (e : ℕ) (s : Slot) → Below (entryTests f e s)
+entry-below : (f : Format) (e : ℕ) (s : Slot) → Below Wider (entryTests f e s)
 unfolding entryTests
 entry-below f e s = also {n = Word} (omega arith) (also {n = Places} (omega arith) none)
 
-later-below : (f : Format) (card : List ℕ) (k : ℕ) → Below (laterTests f card k)
+later-below : (f : Format) (card : List ℕ) (k : ℕ) → Below Wider (laterTests f card k)
 unfolding laterTests slotsTests
 later-below f card k =
     below-append (block-below (blockAt card k) k)
     (below-append (below-turns (λ j. entry-below f _ (slotAt (blockAt card k) j)) 0 _) (also {n = Spare} (omega arith) none))
 
 module _ (limit : ℕ) (card : List ℕ) where
-  head-below : Below (headTests limit card)
+  head-below : Below Wider (headTests limit card)
   unfolding headTests fieldTests
   head-below =
       also {n = Short} (omega arith)
@@ -64,7 +41,7 @@ module _ (limit : ℕ) (card : List ℕ) where
       (also {n = Count} (omega arith)
       (also {n = Spare} (omega arith) none))))))
 
-  order-below : Below (readingOrder limit card)
+  order-below : Below Wider (readingOrder limit card)
   unfolding readingOrder
   order-below =
       below-append head-below
@@ -72,4 +49,4 @@ module _ (limit : ℕ) (card : List ℕ) where
 
   pub building-below : (room : ℕ) {n p : ℕ} → first (buildTests limit card room) sound ≡ refused n p → n < Wider
   unfolding buildTests
-  building-below room e = below-refused (below-append order-below (also {n = Room} (omega arith) none)) e
+  building-below room e = below-refused (below-append order-below (also {n = Room} (omega arith) none)) sound e

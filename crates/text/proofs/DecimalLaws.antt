@@ -1,4 +1,4 @@
--- Laws of numbers in decimal: the two equations that `decimal` is known by, that it is what `io::decimal` puts, and how long it is.
+-- Laws of numbers in decimal: the two equations that `decimal` is known by, and how long it is.
 -- Assumes nothing.
 use mathlib.Core.Path.{_≡_, refl, sym, ap, _∙_}
 use mathlib.Core.Logic.{⊎-elim}
@@ -7,8 +7,6 @@ use Prim.Native.Nat.{ℕ, zero, suc, _+_, _-_, _^_, _/_, _%_, _≤_, _<_}
 use native.Mathlib.Nat.{pow-zero, pow-succ', one-le-pow, eq-zero-or-pos}
 use native.Mathlib.Omega.{arith}
 use lib.ListN.{length, length-append}
-use borrow.Author.Tests.{lt-ltb}
-use Rattle.io.specs.Digits.{glyph, digits, Fewest}
 use Rattle.text.specs.Text.{digit, digitsIn, decimal}
 use Rattle.text.specs.Putting.{mostDigits}
 
@@ -48,30 +46,13 @@ pub decimal-more : (n : ℕ) → 10 ≤ n → decimal n ≡ decimal (n / 10) ++ 
 unfolding decimal
 decimal-more n h = ap (λ (xs : List ℕ). xs ++ (digit (n % 10) ∷ [])) (digits-decimal n (n / 10) (omega arith) (omega arith))
 
--- ---- what `io::decimal` puts
-
-glyph-digit : (d : ℕ) → d < 10 → glyph d ≡ digit d
-glyph-digit d h = rw (lt-ltb d 10 h)
-
-pub digits-fewest : (k n : ℕ) → Fewest 10 1 n k → digits 10 k n ≡ decimal n
-digits-fewest zero n few = absurd (omega (arith, few .0))
-digits-fewest (suc zero) n few =
-    let below : n < 10 = omega (arith, few .1, pow-succ' 10 0, pow-zero 10) in
-    let all : n % 10 ≡ n = omega arith in
-    rw all (ap (λ (d : ℕ). d ∷ []) (glyph-digit n below)) ∙ sym (decimal-one n below)
-digits-fewest (suc (suc k)) n few =
-    let one-less : suc (suc k) - 1 ≡ suc k = omega arith in
-    let least : 10 ^ suc k ≤ n = rw one-less at (few .2 (omega arith)) in
-    let none-less : suc k - 1 ≡ k = omega arith in
-    let up = pow-succ' 10 (suc k) in
-    let down = pow-succ' 10 k in
-    let more : 10 ≤ n = omega (arith, one-le-pow k 10 (omega arith)) in
-    let fewer : Fewest 10 1 (n / 10) (suc k) = (omega arith, omega (arith, few .1), λ h. rw none-less (omega arith)) in
-    ap (λ (xs : List ℕ). xs ++ (glyph (n % 10) ∷ [])) (digits-fewest (suc k) (n / 10) fewer)
-    ∙ ap (λ (d : ℕ). decimal (n / 10) ++ (d ∷ [])) (glyph-digit (n % 10) (omega arith))
-    ∙ sym (decimal-more n more)
-
 -- ---- how long
+
+pub length-one : (n : ℕ) → n < 10 → length (decimal n) ≡ 1
+length-one n h = ap length (decimal-one n h)
+
+pub length-more : (n : ℕ) → 10 ≤ n → length (decimal n) ≡ length (decimal (n / 10)) + 1
+length-more n h = ap length (decimal-more n h) ∙ length-append (decimal (n / 10)) (digit (n % 10) ∷ [])
 
 pub decimal-length : (k n : ℕ) → n < 10 ^ suc k → length (decimal n) ≤ suc k
 decimal-length zero n h = omega (arith, ap length (decimal-one n (omega (arith, pow-succ' 10 0, pow-zero 10))))

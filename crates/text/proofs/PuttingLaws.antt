@@ -2,13 +2,13 @@
 -- Assumes nothing.
 use mathlib.Core.Path.{_≡_, refl, sym, ap, _∙_}
 use mathlib.Core.List.{List, [], _∷_, _++_}
-use Prim.Native.Nat.{ℕ, _+_, _^_, _≤_, _<_}
+use Prim.Native.Nat.{ℕ, suc, _+_, _^_, _≤_, _<_}
 use native.Mathlib.Numerals.{add-one}
 use native.Mathlib.Omega.{arith}
-use lib.ListN.{length, getD, take, set, length-append}
-use lib.Seq.{take-suc, take-all, length-take-le}
+use lib.ListN.{length, getD, take, drop, set, length-append}
+use lib.Seq.{take-suc, take-all, length-take-le, drop-drop, append-snoc, set-at}
 use Rattle.block.specs.Bytes.{putAt}
-use Rattle.block.proofs.PutLaws.{put-none, put-length, put-on, put-next}
+use Rattle.block.proofs.PutLaws.{put-none, put-one, put-length, put-part, put-on, put-next}
 use Rattle.text.specs.Text.{ascii, decimal, others}
 use Rattle.text.specs.Putting.{mostDigits, Put}
 use Rattle.text.proofs.DecimalLaws.{decimal-few}
@@ -50,7 +50,15 @@ module _ (xs : List ℕ) (at : ℕ) (before : List ℕ) where
       stands = so-far .stands ∙ ap (λ (ys : List ℕ). putAt ys at before) (take-all i xs h);
     }
 
+-- a single byte
+pub put-byte : (before : List ℕ) (at b : ℕ) → at < length before → Put (b ∷ []) at before (at + 1) (set before at b)
+put-byte before at b h = record { room = omega arith; ends = refl; stands = put-one before at b h }
+
 -- ---- part by part
+
+-- no byte
+pub put-nothing : (before : List ℕ) (at : ℕ) → at ≤ length before → Put [] at before at before
+put-nothing before at h = record { room = omega arith; ends = omega arith; stands = sym (put-none before at) }
 
 module _ {xs before out : List ℕ} {at to : ℕ} (put : Put xs at before to out) where
   pub length-put : length out ≡ length before
@@ -65,6 +73,31 @@ module _ {xs before out : List ℕ} {at to : ℕ} (put : Put xs at before to out
         room = omega (arith, put .ends);
         ends = omega (arith, next .ends, put .ends);
         stands = next .stands ∙ put-on before at xs (put .stands) (put .ends) ys fits;
+      }
+
+  -- another byte before it
+  pub put-before : (x : ℕ) {from : ℕ} → at ≡ from + 1 → Put (x ∷ xs) from before to (set out from x)
+  put-before x {from} next =
+      let n = length xs in
+      let y = getD before from 0 in
+      let front : take at before ≡ take from before ++ (y ∷ []) = rw (next, add-one from) (take-suc before from 0 (omega (arith, put .room))) in
+      let further : at + n ≡ from + suc n = omega arith in
+      let back : drop n (drop at before) ≡ drop (suc n) (drop from before) =
+      drop-drop n at before ∙ ap (λ (i : ℕ). drop i before) further ∙ sym (drop-drop (suc n) from before) in
+      let rest = xs ++ drop n (drop at before) in
+      let cut : out ≡ take from before ++ y ∷ rest =
+      put .stands
+      ∙ sym (put-part before xs at n refl)
+      ∙ ap (λ (zs : List ℕ). zs ++ rest) front
+      ∙ append-snoc (take from before) y rest in
+      record {
+        room = omega (arith, put .room);
+        ends = omega (arith, put .ends);
+        stands =
+            ap (λ (zs : List ℕ). set zs from x) cut
+            ∙ set-at (take from before) y rest x from (length-take-le from before (omega (arith, put .room)))
+            ∙ ap (λ (zs : List ℕ). take from before ++ x ∷ (xs ++ zs)) back
+            ∙ put-part before (x ∷ xs) from (suc n) refl;
       }
 
   -- the same bytes by another name

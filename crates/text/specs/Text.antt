@@ -2,6 +2,7 @@
 --   ascii text      == the bytes of a text
 --   decimal n       == the number n in decimal, with no needless zeros
 --   line f fs       == a line: the field f and the fields fs, with one space between two fields, and its end
+--   refusalLine n p == the one line of a refusal
 --   Printed Prints before n after
 --                   == what `Prints` says is printed stands at the start of a buffer that was `before`, has n bytes, and is followed by the
 --                      buffer's own
@@ -39,6 +40,10 @@ others (field ∷ fields) = ascii " " ++ (field ++ others fields)
 
 abbrev pub line : List ℕ → List (List ℕ) → List ℕ
 line field fields = field ++ others fields
+
+-- "A refused card gives the one line `refused N P`, number and place."
+abbrev pub refusalLine : ℕ → ℕ → List ℕ
+refusalLine n p = line (ascii "refused") (decimal n ∷ decimal p ∷ [])
 
 pub record Printed (Prints : List ℕ → Type 0) (before : List ℕ) (n : ℕ) (after : List ℕ) : Type 0 where
   pub bytes : List ℕ

@@ -1,13 +1,15 @@
 // Text put into a buffer, one part after the other: each function puts its part from `at` on, and answers where the next begins. Each asks
 // for room for its part.
 ghost use mathlib.Core.List.{[], _∷_, _++_};
-ghost use Prim.Native.Nat.{_+_, _≤_};
+ghost use mathlib.Core.Path.{_≡_};
+ghost use Prim.Native.Nat.{_+_, _≤_, _<_};
 ghost use lib.ListN.{length};
-ghost use Rattle.text.specs.Text.{ascii, decimal, others};
-ghost use Rattle.text.specs.Putting.{mostDigits, Put};
+ghost use Rattle.text.specs.Text.{ascii, digit, decimal, others, refusalLine};
+ghost use Rattle.text.specs.Putting.{mostDigits, refusalRoom, Put};
+use answers::Refusal;
 
-// The most digits of a number.
-const DIGITS: usize = 20;
+// The digit 0 in ASCII.
+const DIGIT_0: u8 = 48;
 
 // A text.
 pub fn put_text(out: &mut [u8], at: usize, text: &[u8]) -> usize
@@ -32,14 +34,35 @@ pub fn put_field(out: &mut [u8], at: usize, text: &[u8]) -> usize
     put_text(out, next, text)
 }
 
+// A digit.
+fn put_digit(out: &mut [u8], at: usize, d: usize) -> usize
+    requires { ⌜ (d < 10) × (at < length (now out)) ⌝ }
+    ensures { λ r. ⌜ Put (digit d ∷ []) at (now (out .entry)) r (now (out .exit)) ⌝ }
+{
+    out[at] = DIGIT_0 + (d as u8);
+    at + 1
+}
+
 // A number in decimal.
-fn put_digits(out: &mut [u8], at: usize, x: usize) -> usize
-    requires { ⌜ at + mostDigits ≤ length (now out) ⌝ }
+pub fn put_digits(out: &mut [u8], at: usize, x: usize) -> usize
+    requires { ⌜ at + length (decimal x) ≤ length (now out) ⌝ }
     ensures { λ r. ⌜ Put (decimal x) at (now (out .entry)) r (now (out .exit)) ⌝ }
 {
-    let mut digits = [0u8; DIGITS];
-    let k = io::decimal(x as u64, &mut digits);
-    put_text(out, at, &digits[..k])
+    if x < 10 {
+        return put_digit(out, at, x);
+    }
+    let last_at = put_digits(out, at, x / 10);
+    put_digit(out, last_at, x % 10)
+}
+
+// How many digits a number has in decimal.
+pub fn digits_in(x: usize) -> usize
+    ensures { λ r. ⌜ r ≡ length (decimal x) ⌝ }
+{
+    if x < 10 {
+        return 1;
+    }
+    digits_in(x / 10) + 1
 }
 
 // A space and a number.
@@ -77,4 +100,13 @@ pub fn put_two(out: &mut [u8], at: usize, x: usize, y: usize) -> usize
 {
     let next = put_number(out, at, x);
     put_last(out, next, y)
+}
+
+// The one line of a refusal.
+pub fn put_refused(out: &mut [u8], r: Refusal) -> usize
+    requires { ⌜ refusalRoom ≤ length (now out) ⌝ }
+    ensures { λ n. ⌜ Put (refusalLine (r .number) (r .place)) 0 (now (out .entry)) n (now (out .exit)) ⌝ }
+{
+    let number_at = put_text(out, 0, b"refused");
+    put_two(out, number_at, r.number, r.place)
 }

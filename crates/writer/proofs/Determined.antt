@@ -24,6 +24,9 @@ unfolding writtenBack
 written-back (Card n) = refl
 written-back (Refused n) = refl
 
+pub written-one : (r s : Written) → saysWritten r ≡ saysWritten s → r ≡ s
+written-one = says-one saysWritten writtenBack written-back
+
 pub write-one : (κs : Lfts 4) (a : Dens κs write.ps) (r r′ : resT write.r κs .Denot) (e e′ : AtExit (endedOf 4 write.ps write.r) κs)
     → write-reads.Post κs a r e → write-reads.Post κs a r′ e′ → (r ≡ r′) × (now (e .1 .1 .1 .1 .1 .0) ≡ now (e′ .1 .1 .1 .1 .1 .0))
-write-one κs a r r′ e e′ p q = (says-one saysWritten writtenBack written-back r r′ (p .answer ∙ sym (q .answer)), p .bytes ∙ sym (q .bytes))
+write-one κs a r r′ e e′ p q = (written-one r r′ (p .answer ∙ sym (q .answer)), p .bytes ∙ sym (q .bytes))

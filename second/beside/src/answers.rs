@@ -77,7 +77,7 @@ pub struct Part {
     pub length: usize,
 }
 
-/// What the writer answers; the length is 0 where it refuses.
+/// What the writer answers, and a call that imports or exports a list; the length is 0 where it refuses.
 #[repr(C)]
 #[derive(Clone, Copy, Debug, Default, PartialEq, Eq)]
 pub struct WriteAnswer {
@@ -85,7 +85,7 @@ pub struct WriteAnswer {
     pub number: usize,
     /// The refusal's place, or 0.
     pub place: usize,
-    /// The card's length in bytes.
+    /// The length in bytes of the card, or of the list that is exported.
     pub length: usize,
 }
 

@@ -65,6 +65,18 @@ mod exported {
             out: *mut u8,
             out_len: usize,
         ) -> BuildAnswer;
+        pub fn belfrymist_import(
+            list: *const u8,
+            list_len: usize,
+            out: *mut u8,
+            out_len: usize,
+        ) -> WriteAnswer;
+        pub fn belfrymist_export(
+            card: *const u8,
+            card_len: usize,
+            out: *mut u8,
+            out_len: usize,
+        ) -> WriteAnswer;
     }
 }
 
@@ -140,6 +152,20 @@ mod exported {
                 ones_len: usize,
                 twos: *const u16,
                 twos_len: usize,
+                out: *mut u8,
+                out_len: usize,
+            );
+            pub fn belfrymist_import(
+                answer: *mut WriteAnswer,
+                list: *const u8,
+                list_len: usize,
+                out: *mut u8,
+                out_len: usize,
+            );
+            pub fn belfrymist_export(
+                answer: *mut WriteAnswer,
+                card: *const u8,
+                card_len: usize,
                 out: *mut u8,
                 out_len: usize,
             );
@@ -286,12 +312,35 @@ mod exported {
         );
         answer
     }
+
+    pub unsafe fn belfrymist_import(
+        list: *const u8,
+        list_len: usize,
+        out: *mut u8,
+        out_len: usize,
+    ) -> WriteAnswer {
+        let mut answer = WriteAnswer::default();
+        placed::belfrymist_import(&mut answer, list, list_len, out, out_len);
+        answer
+    }
+
+    pub unsafe fn belfrymist_export(
+        card: *const u8,
+        card_len: usize,
+        out: *mut u8,
+        out_len: usize,
+    ) -> WriteAnswer {
+        let mut answer = WriteAnswer::default();
+        placed::belfrymist_export(&mut answer, card, card_len, out, out_len);
+        answer
+    }
 }
 
 use exported::{
     belfrymist_admit, belfrymist_build, belfrymist_companion, belfrymist_count,
-    belfrymist_count_lists, belfrymist_entry, belfrymist_fetch, belfrymist_settle,
-    belfrymist_settle_lists, belfrymist_step, belfrymist_write,
+    belfrymist_count_lists, belfrymist_entry, belfrymist_export, belfrymist_fetch,
+    belfrymist_import, belfrymist_settle, belfrymist_settle_lists, belfrymist_step,
+    belfrymist_write,
 };
 
 /// Admits the card.
@@ -429,4 +478,18 @@ pub fn settle_lists(
             out.len(),
         )
     }
+}
+
+/// Imports a list of the older readers as a card.
+pub fn import(list: &[u8], out: &mut [u8]) -> WriteAnswer {
+    // SAFETY: each pointer with its length is that of a slice that lives through
+    // the call; the library only reads the list, and the output is lent to it
+    // alone.
+    unsafe { belfrymist_import(list.as_ptr(), list.len(), out.as_mut_ptr(), out.len()) }
+}
+
+/// Exports the card as a list of the older readers.
+pub fn export(card: &[u8], out: &mut [u8]) -> WriteAnswer {
+    // SAFETY: as for `build`.
+    unsafe { belfrymist_export(card.as_ptr(), card.len(), out.as_mut_ptr(), out.len()) }
 }

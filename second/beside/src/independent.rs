@@ -4,6 +4,7 @@ use second::block;
 use second::build::{self, Built};
 use second::count::{self, Count};
 use second::entry::{Entry, Places};
+use second::probe_list;
 use second::reader::{self, Head};
 use second::refusal::Refusal;
 use second::settle;
@@ -117,7 +118,22 @@ pub fn write(
     twos: &[u16],
     out: &mut [u8],
 ) -> WriteAnswer {
-    match writer::write(kind, l, words, ones, twos, out) {
+    written(writer::write(kind, l, words, ones, twos, out))
+}
+
+/// Imports a list of the older readers as a card.
+pub fn import(list: &[u8], out: &mut [u8]) -> WriteAnswer {
+    written(probe_list::import(list, out))
+}
+
+/// Exports the card as a list of the older readers.
+pub fn export(card: &[u8], out: &mut [u8]) -> WriteAnswer {
+    written(probe_list::export(card, out))
+}
+
+/// What the writer answers, and a call that imports or exports.
+fn written(answer: Result<usize, Refusal>) -> WriteAnswer {
+    match answer {
         Ok(length) => WriteAnswer {
             length,
             ..WriteAnswer::default()

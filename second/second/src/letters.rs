@@ -1,7 +1,19 @@
-//! The letters of words and builds.
+//! The letters of words, builds and lists.
 
-/// The letters by their codes, from 0 on; searched, the codes by their letters.
+/// The letters by their codes, from 0 on.
 const LETTERS: [u8; 4] = *b"ACGT";
+/// What stands for the code of a byte that is no letter.
+const NO_LETTER: u8 = 255;
+/// The codes of all bytes.
+const CODES: [u8; 256] = {
+    let mut codes = [NO_LETTER; 256];
+    let mut code = 0;
+    while code < LETTERS.len() {
+        codes[LETTERS[code] as usize] = code as u8;
+        code += 1;
+    }
+    codes
+};
 
 /// The letter with the code that a word's last two bits hold.
 fn last_letter(word: u32) -> u8 {
@@ -9,10 +21,9 @@ fn last_letter(word: u32) -> u8 {
 }
 
 /// The code of a letter, or nothing for any other byte.
-fn code(letter: u8) -> Option<u32> {
-    let codes = (0..).zip(LETTERS);
-    let mut found = codes.filter(|&(_, known)| known == letter);
-    found.next().map(|(code, _)| code)
+pub fn code(letter: u8) -> Option<u32> {
+    let code = CODES[usize::from(letter)];
+    (code != NO_LETTER).then_some(u32::from(code))
 }
 
 /// The codes of these letters, or nothing where a byte among them is no letter.
@@ -20,14 +31,18 @@ pub fn codes(letters: &[u8]) -> Option<Vec<u32>> {
     letters.iter().map(|&letter| code(letter)).collect()
 }
 
+/// The letters of a word of l letters, the first one first.
+pub fn letters_of(l: u8, word: u32) -> impl Iterator<Item = u8> {
+    (0..l).rev().map(move |k| last_letter(word >> (2 * k)))
+}
+
 /// The sequence that words of l letters spell, each overlapping the one before it by l−1 letters.
 pub fn spell(l: u8, words: &[u32]) -> Vec<u8> {
     let Some((first, later)) = words.split_first() else {
         return Vec::new();
     };
-    let of_first = (0..l).rev().map(|k| last_letter(first >> (2 * k)));
     let of_later = later.iter().map(|&word| last_letter(word));
-    of_first.chain(of_later).collect()
+    letters_of(l, *first).chain(of_later).collect()
 }
 
 #[cfg(test)]

@@ -1,4 +1,4 @@
-//! Every number of the card's layout and limits, each in one place.
+//! Every number of the card's layout and limits, and of a list's, each in one place.
 
 /// The bytes of a block.
 pub const BLOCK: usize = 512;
@@ -52,3 +52,16 @@ pub const NARROW_WIDTH: u16 = 4;
 pub const MOST_OVER: usize = 2 * NARROW_WIDTH as usize - 1;
 /// What stands for "no second place" on a pair card; it is never a place.
 pub const NO_PLACE: u16 = 65_535;
+
+/// What stands between the word and the places on a line of a list.
+pub const TAB: u8 = b'\t';
+/// What stands between the two places of a pair on a line of a list.
+pub const COMMA: u8 = b',';
+/// What stands between the first and the last place of a span on a line of a list.
+pub const HYPHEN: u8 = b'-';
+/// What every line of a list ends in.
+pub const NEWLINE: u8 = b'\n';
+/// The largest number on a line of a list.
+pub const MOST_LISTED: u32 = 65_535;
+/// The most bytes of a line beside its word, on the list of a card: a tab, two numbers of three digits, a mark and a newline.
+pub const BESIDE_THE_WORD: usize = 9;

@@ -32,6 +32,14 @@ pub enum Reason {
     Lists = 13,
     /// There is no such block or entry.
     Absent = 14,
+    /// A line of a list is not as its text must be.
+    Text = 23,
+    /// A line's mark differs from an earlier one.
+    Mixed = 24,
+    /// A word's length is not that of the first word.
+    Uneven = 25,
+    /// A listed place is 0.
+    Zero = 26,
     /// A span is wider than a narrow one may be.
     Wider = 30,
 }
@@ -46,12 +54,12 @@ impl Reason {
     }
 }
 
-/// A refusal: its reason, and the block, the entry or the 0 that it points to.
+/// A refusal: its reason, and the block, the entry, the line or the 0 that it points to.
 #[derive(Clone, Copy, Debug, PartialEq, Eq)]
 pub struct Refusal {
     /// The condition that was met.
     pub reason: Reason,
-    /// The block or entry where it was met, or 0 where no place is stated.
+    /// The block or entry where it was met, from 0, or the line, from 1, or 0 where no place is stated.
     pub place: usize,
 }
 

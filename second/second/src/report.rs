@@ -1,14 +1,19 @@
-//! What the programs `build` and `settle` print for a card, and the line that says how many builds it has.
+//! What the programs print: `build` and `settle` for a card, the line that says how many builds it has, and a list or a card for the other.
 
 use crate::build::{build, Built};
 use crate::count::{count_card, Count};
-use crate::profile::Kind;
+use crate::numbers::{BESIDE_THE_WORD, MOST_ENTRIES, MOST_LETTERS};
+use crate::probe_list::{export, import};
+use crate::profile::{Kind, Profile};
 use crate::reader;
 use crate::refusal::Refusal;
 use crate::settle::settle_card;
 
 /// The budget that `build` uses.
 pub const BUDGET: u32 = 1_000_000;
+
+/// The most bytes of a list that the program which imports takes.
+pub const MOST_BYTES: usize = 1_048_576;
 
 /// The lines of `build` for a card, each ended by a newline; all of the input is the card.
 pub fn report(card: &[u8]) -> String {
@@ -29,7 +34,38 @@ pub fn count_line(card: &[u8]) -> String {
     }
 }
 
-/// The one line for a card that is refused.
+/// The card of a list, or the one line that says why there is none; all of the input is the list.
+pub fn card_of_list(list: &[u8]) -> Result<Vec<u8>, String> {
+    if list.len() > MOST_BYTES {
+        return Err(format!("list2card: more than {MOST_BYTES} bytes\n"));
+    }
+    let largest = Profile {
+        kind: Kind::Span,
+        l: MOST_LETTERS,
+        m: MOST_ENTRIES,
+    };
+    start_of(largest.size(), |out| import(list, out))
+}
+
+/// The list of a card, or the one line that says why there is none; all of the input is the card.
+pub fn list_of_card(card: &[u8]) -> Result<Vec<u8>, String> {
+    let longest_line = usize::from(MOST_LETTERS) + BESIDE_THE_WORD;
+    let longest = usize::from(MOST_ENTRIES) * longest_line;
+    start_of(longest, |out| export(card, out))
+}
+
+/// What a call puts at the start of an output of this room, or the one line for its refusal.
+fn start_of(
+    room: usize,
+    call: impl FnOnce(&mut [u8]) -> Result<usize, Refusal>,
+) -> Result<Vec<u8>, String> {
+    let mut out = vec![0; room];
+    let length = call(&mut out).map_err(refused)?;
+    out.truncate(length);
+    Ok(out)
+}
+
+/// The one line for a card that is refused, or a list.
 fn refused(refusal: Refusal) -> String {
     format!("refused {} {}\n", refusal.number(), refusal.place)
 }

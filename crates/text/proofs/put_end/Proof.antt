@@ -1,6 +1,7 @@
 -- `put_end` meets its contract: a number, and the line's end after it (`put-then`). Assumes nothing.
 use native.Mathlib.Omega.{arith}
 use borrow.Author.Needs.{needs}
+use Rattle.text.proofs.DecimalLaws.{decimal-few}
 use Rattle.text.proofs.PuttingLaws.{length-put, put-then, digits-end}
 use Rattle.text.proofs.put_end.Statement.{statement}
 use Rattle.text.proofs.put_end.Tie as tie
@@ -10,7 +11,9 @@ abbrev numbered : tie.After-put-text-arg2 → tie.After-put-digits
 numbered c = c .before .before .before .before
 
 put-digits-requires : tie.Need-put-digits-requires
-put-digits-requires c κs = search needs
+put-digits-requires c κs =
+    let start = c .before .before in
+    omega (arith, decimal-few (start .args .x) (start .fits .x .fits), start .pre)
 
 slice-aggregate-put-text : tie.Need-slice-aggregate-put-text
 slice-aggregate-put-text c = search needs

@@ -1,6 +1,8 @@
 -- `put_number` meets its contract. Assumes nothing.
+use native.Mathlib.Omega.{arith}
 use borrow.Author.Needs.{needs}
-use Rattle.text.proofs.PuttingLaws.{put-then}
+use Rattle.text.proofs.DecimalLaws.{decimal-few}
+use Rattle.text.proofs.PuttingLaws.{length-put, put-then}
 use Rattle.text.proofs.put_number.Statement.{statement}
 use Rattle.text.proofs.put_number.Tie as tie
 
@@ -11,7 +13,10 @@ put-text-requires : tie.Need-put-text-requires
 put-text-requires c κs = search needs
 
 put-digits-requires : tie.Need-put-digits-requires
-put-digits-requires c κs = search needs
+put-digits-requires c κs =
+    let space = c .before .before .before in
+    let start = space .before .before .before .before in
+    omega (arith, decimal-few (start .args .x) (start .fits .x .fits), start .pre, space .put-text .ensures .ends, length-put (space .put-text .ensures))
 
 same-length : tie.Need-same-length
 same-length c = search needs

@@ -135,3 +135,43 @@ fn the_line_of_the_number_of_builds() {
     put_right(&mut card, 8);
     assert_eq!(count_line(&card), "refused 10 441\n");
 }
+
+#[test]
+fn the_card_of_a_list() {
+    let list = b"AC\t1-3\nCA\t2-4\nAG\t1-3\nGA\t2-4\n";
+    assert_eq!(card_of_list(list), Ok(s1()));
+    assert_eq!(card_of_list(b""), Err("refused 23 1\n".to_string()));
+    let mixed = b"AC\t1,2\nAC\t1-2\n";
+    assert_eq!(card_of_list(mixed), Err("refused 24 2\n".to_string()));
+    assert_eq!(card_of_list(b"AC\t2\n"), Err("refused 11 0\n".to_string()));
+}
+
+#[test]
+fn the_longest_lists() {
+    let full = b"AC\t1\n".repeat(504);
+    assert_eq!(card_of_list(&full).map(|card| card.len()), Ok(4608));
+    // The text of these is sound, but they have too many lines for a card.
+    let lines = b"AC\t1\n".repeat(209_714);
+    let longest = [&b"AC\t10\n"[..], &lines].concat();
+    assert_eq!(longest.len(), 1_048_576);
+    assert_eq!(card_of_list(&longest), Err("refused 7 0\n".to_string()));
+    let more = Err("list2card: more than 1048576 bytes\n".to_string());
+    let longer = [&b"AC\t100\n"[..], &lines].concat();
+    assert_eq!(card_of_list(&longer), more);
+    assert_eq!(card_of_list(&vec![0; 1_048_577]), more);
+    let zeros = vec![0; 1_048_576];
+    assert_eq!(card_of_list(&zeros), Err("refused 23 1\n".to_string()));
+}
+
+#[test]
+fn the_list_of_a_card() {
+    let list = b"AC\t1-3\nCA\t2-4\nAG\t1-3\nGA\t2-4\n".to_vec();
+    assert_eq!(list_of_card(&s1()), Ok(list));
+    assert_eq!(list_of_card(b""), Err("refused 1 0\n".to_string()));
+    let mut longest = plain(Kind::Span, 12, 504);
+    for entry in &mut longest.entries {
+        (entry.one, entry.two) = (503, 503);
+    }
+    let lines = b"AAAAAAAAAAAA\t504-504\n".repeat(504);
+    assert_eq!(list_of_card(&longest.lay_out()), Ok(lines));
+}

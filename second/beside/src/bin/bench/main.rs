@@ -3,6 +3,7 @@
 //! `report` of `second`: one table of ratios.
 
 mod counting;
+mod listing;
 mod pairing;
 mod reading;
 mod running;
@@ -28,12 +29,14 @@ fn run() -> Result<(), String> {
     let walks = walking::samples(&mut random);
     let narrow = settling::samples(&mut random);
     let runs = running::samples(&mut random);
+    let listed = listing::samples(&mut random);
 
     let mut operations = reading::operations(&cards)?;
     operations.extend(pairing::operations(&pairs)?);
     operations.extend(counting::operations(&pairs)?);
     operations.extend(walking::operations(&walks)?);
     operations.extend(settling::operations(&narrow)?);
+    operations.extend(listing::operations(&listed)?);
     // The program is x86-64 code: elsewhere an emulator's time would be set beside the processor's own.
     if cfg!(target_arch = "x86_64") {
         operations.extend(running::operations(&programs, &runs)?);

@@ -8,6 +8,8 @@
 mod alike;
 mod building;
 mod counting;
+mod exporting;
+mod importing;
 mod inputs;
 mod lent;
 mod lists;
@@ -37,7 +39,7 @@ const COPIES: usize = 2;
 const LONG_TURNS: usize = 18;
 /// The steps that lists are changed by before each of these turns.
 const STEPS: usize = 16;
-/// From so many calls on, no answer of a build, of a count or of settling may be missing.
+/// From so many calls on, no answer of a build, of a count, of settling or of lists as texts may be missing.
 const ENOUGH: u64 = 100_000;
 /// From so many calls on, none may be missing after a long walk.
 const ENOUGH_LONG: u64 = 400_000;
@@ -64,6 +66,7 @@ impl Soak {
     fn run(&mut self, random: &mut Random) -> Result<(), String> {
         self.run_beyond_the_index(random)?;
         self.run_beyond_the_count(random)?;
+        self.import_beyond_the_count(random)?;
         while !self.is_done() {
             let sound = any_buildable_card(random);
             self.on_card(random, &sound)?;
@@ -86,6 +89,7 @@ impl Soak {
             if random.once_in(2) {
                 self.settle_narrow(random)?;
             }
+            self.import_texts(random)?;
             if random.once_in(LONG_TURNS) {
                 self.walk_long(random)?;
             }
@@ -114,7 +118,8 @@ impl Soak {
         self.count(&lent)?;
         self.settle(random, &lent)?;
         self.read(random, &lent)?;
-        self.round(random, &lent)
+        self.round(random, &lent)?;
+        self.export(random, &lent)
     }
 
     /// Says how often each answer came, and what a long run should not be without.

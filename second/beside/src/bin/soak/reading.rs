@@ -73,7 +73,8 @@ impl Soak {
             self.read_once(&lent, Operation::Fetch, k)?;
         }
         self.count(&lent)?;
-        self.settle(random, &lent)
+        self.settle(random, &lent)?;
+        self.export(random, &lent)
     }
 }
 

@@ -18,10 +18,12 @@ pub enum Operation {
     Companion,
     Fetch,
     Write,
+    Import,
+    Export,
 }
 
 /// All of them, in the order of their lines.
-const OPERATIONS: [Operation; 11] = [
+const OPERATIONS: [Operation; 13] = [
     Operation::Build,
     Operation::Count,
     Operation::CountLists,
@@ -33,6 +35,8 @@ const OPERATIONS: [Operation; 11] = [
     Operation::Companion,
     Operation::Fetch,
     Operation::Write,
+    Operation::Import,
+    Operation::Export,
 ];
 /// The names of the verdicts, from number 1 on.
 pub const VERDICTS: [&str; 4] = ["sole", "several", "none", "unsettled"];
@@ -50,6 +54,10 @@ const OF_LISTS: [usize; 6] = [5, 6, 7, 10, 11, 13];
 const OF_SETTLE: [usize; 13] = [1, 2, 3, 4, 5, 6, 7, 8, 9, 10, 11, 12, 30];
 /// The refusals that settling lists has.
 const OF_SETTLE_LISTS: [usize; 8] = [5, 6, 7, 10, 11, 12, 13, 30];
+/// The refusals that importing a list has.
+const OF_IMPORT: [usize; 8] = [6, 7, 11, 12, 23, 24, 25, 26];
+/// The refusals that exporting a card has.
+const OF_EXPORT: [usize; 12] = [1, 2, 3, 4, 5, 6, 7, 8, 9, 10, 11, 12];
 /// What a count says that is not refused: no build, 2^0 builds, or 2 to a higher power.
 const COUNTS: [&str; 3] = ["none", "one build", "more"];
 /// A walk of more placements is long.
@@ -124,7 +132,7 @@ impl Tally {
         }
     }
 
-    /// An answer of a build, of a count or of settling that never came, if there is one.
+    /// An answer of a build, of a count, of settling or of lists as texts that never came, if there is one.
     pub fn missing(&self) -> Option<String> {
         self.missing_verdict(Operation::Build, VERDICTS.len())
             .or_else(|| self.missing_refusal(Operation::Build, &OF_BUILD))
@@ -136,6 +144,15 @@ impl Tally {
             .or_else(|| self.missing_refusal(Operation::CountLists, &OF_LISTS))
             .or_else(|| self.missing_settle(Operation::Settle, &OF_SETTLE))
             .or_else(|| self.missing_settle(Operation::SettleLists, &OF_SETTLE_LISTS))
+            .or_else(|| self.missing_answer(Operation::Import, &OF_IMPORT))
+            .or_else(|| self.missing_answer(Operation::Export, &OF_EXPORT))
+    }
+
+    /// What this operation never answered, if there is such an answer; it has these refusals.
+    fn missing_answer(&self, operation: Operation, numbers: &[usize]) -> Option<String> {
+        let none = self.answers[operation as usize][0] == 0;
+        none.then(|| format!("no {operation:?} was answered"))
+            .or_else(|| self.missing_refusal(operation, numbers))
     }
 
     /// What this operation, which settles, never answered, if there is such an answer; it has these refusals.

@@ -1,10 +1,11 @@
-//! The cases of the stored calls: how many builds there are, then what is settled.
+//! The cases of the stored calls: how many builds there are, then what is settled, then lists as texts.
 //!
 //! Where a case is made for one answer or for one rule, the answer is stated
 //! beside it, and the program stops if `second` says otherwise.
 
 mod counting;
 mod ladders;
+mod listing;
 mod settling;
 
 use second::cards::Random;
@@ -30,6 +31,7 @@ impl Cases {
         };
         cases.counting();
         cases.settling();
+        cases.listing();
         cases.record
     }
 }

@@ -1,4 +1,4 @@
-//! Writes stored calls: records of cards and lists, and the lines for their numbers of builds and for what is settled.
+//! Writes stored calls: records of cards and lists, and the lines for their numbers of builds, for what is settled, and for lists as texts.
 //!
 //! The README describes both files. The same program always writes the same
 //! bytes: everything is drawn from one fixed seed.

@@ -1,14 +1,17 @@
 //! The two files of the calls as they grow.
 
 mod counting;
+mod listing;
 mod settling;
 
 use second::lists::{Lists, LONGEST_LIST};
 
 use counting::Counts;
+use listing::Listings;
 use settling::Settles;
 
 pub use counting::Answer;
+pub use listing::{Called, LONGEST_ROOM, LONGEST_TEXT};
 
 /// The most bytes that a card may have.
 const LONGEST_CARD: usize = 6400;
@@ -20,6 +23,7 @@ pub struct Record {
     stdout: String,
     counts: Counts,
     settles: Settles,
+    listings: Listings,
 }
 
 impl Record {
@@ -33,16 +37,28 @@ impl Record {
         &self.stdout
     }
 
-    /// How many records there are, and how often each answer came: a line for the counts, and one for what is settled.
+    /// How many records there are, and how often each answer came: a line for the counts, one for what is settled, and one for lists as texts.
     pub fn summary(&self) -> String {
-        format!("{}\n{}", self.counts.summary(), self.settles.summary())
+        let Record {
+            counts,
+            settles,
+            listings,
+            ..
+        } = self;
+        let lines = [counts.summary(), settles.summary(), listings.summary()];
+        lines.join("\n")
     }
 
     /// Puts the tag of a card's record, and the number of its bytes.
     fn put_size(&mut self, tag: u8, card: &[u8]) {
         assert!(card.len() <= LONGEST_CARD, "a card of {}", card.len());
+        self.put_tag_and_size(tag, card);
+    }
+
+    /// Puts the tag of a record, and the number of these bytes.
+    fn put_tag_and_size(&mut self, tag: u8, bytes: &[u8]) {
         self.stdin.push(tag);
-        self.put(&(card.len() as u32).to_le_bytes());
+        self.put(&(bytes.len() as u32).to_le_bytes());
     }
 
     /// Puts the tag of a record of lists, and their kind, l and lengths.

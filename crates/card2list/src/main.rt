@@ -1,0 +1,16 @@
+// The program `card2list`: reads a card from standard input, and writes its probe list, or on standard error why there is none.
+use libc::STDERR_FILENO;
+use libc::STDOUT_FILENO;
+
+fn main() {
+    let card = input::read();
+    let bytes = card.bytes;
+    let n = card.n;
+    let mut out = [0u8; exporting::LIST];
+    let mut err = [0u8; converting::LINE];
+    let written = converting::to_list::convert(&bytes[..n], &mut out, &mut err);
+    let output = written.output;
+    let errors = written.errors;
+    io::write_all(STDOUT_FILENO, &out[..output]);
+    io::write_all(STDERR_FILENO, &err[..errors]);
+}

@@ -1,0 +1,87 @@
+-- The list of the words of GATTACA and its card, each to the other; the same list with places from 0, and with carriage returns, which are
+-- refused; by computation. Assumes nothing.
+use mathlib.Core.Path.{_≡_, refl}
+use mathlib.Core.List.{List, [], _∷_, _++_}
+use Prim.Native.Nat.{ℕ}
+use lib.ListN.{replicate}
+use Rattle.answers.specs.Answer.{first}
+use Rattle.answers.specs.Row.{row, inTurn}
+use Rattle.letters.specs.Letters.{letters, letterOf, searched, codeOf}
+use Rattle.block.specs.Bytes.{twoAt, fourAt, twoBytes, fourBytes}
+use Rattle.block.specs.Check.{sumsOf, checks}
+use Rattle.block.specs.Block.{blockAt, indexOf, blockTests}
+use Rattle.block.specs.Sealing.{checked, sealed}
+use Rattle.entries.specs.Slot.{slotAt, slotBytes, slotFrom}
+use Rattle.entries.specs.Fault.{pairHolds, spanHolds, placesHold, entryTests}
+use Rattle.layout.specs.Bounds.{mostEntries}
+use Rattle.layout.specs.Layout.{formOf, formatOf, slotOf, headSpare, slotsSpare}
+use Rattle.layout.specs.Card.{headBytes, slotsBytes, ownBytes, blocksOf, cardOf}
+use Rattle.card.specs.Reading.{fieldTests, headTests, slotsTests, laterTests, readingOrder}
+use Rattle.card.proofs.Examples.{headOf, bytesOf}
+use Rattle.lists.specs.Lists.{listsTests}
+use Rattle.text.specs.Text.{ascii, digitsIn, decimal}
+use Rattle.probes.specs.Line.{lineText}
+use Rattle.probes.specs.Reading.{readDigits, readNumber, readMarked, readListed, readCodes, after, readFirst, readLine}
+use Rattle.probes.specs.Lines.{linesOf, isLine, lineOf}
+use Rattle.probes.specs.Testing.{known, saidTests, lineTests, textTests}
+use Rattle.importing.specs.Importing.{cardIn, importing}
+use Rattle.exporting.specs.Exporting.{listedFor, exporting}
+use Rattle.converting.specs.Converting.{Streams, tooLong, toCard, toList}
+
+abbrev gattaca : List ℕ
+gattaca = ascii "GAT\t1-2\nATT\t1-3\nTTA\t2-4\nTAC\t3-5\nACA\t4-5\n"
+
+-- its card, with the places from 0
+unfoldable pub gattacaCard : List ℕ
+unfolding headOf
+gattacaCard =
+    headOf 1 2 3 5 0 11 227
+    ++ (bytesOf 35 0 1 ++ (bytesOf 15 0 2 ++ (bytesOf 60 1 3 ++ (bytesOf 49 2 4 ++ (bytesOf 4 3 4
+    ++ (replicate 468 0 ++ (1 ∷ 0 ∷ 184 ∷ 122 ∷ [])))))))
+
+abbrev onOutput : List ℕ → Streams
+onOutput bytes = record { output = bytes; errors = [] }
+
+abbrev onErrors : List ℕ → Streams
+onErrors bytes = record { output = []; errors = bytes }
+
+-- ---- from a list
+
+-- with all that it rests on open to computation
+unfoldable fromList : List ℕ → Streams
+unfolding toCard importing first inTurn textTests lineTests saidTests known isLine lineOf linesOf
+    readLine readFirst after readCodes readListed readMarked readNumber readDigits codeOf searched letters
+    listsTests slotFrom entryTests placesHold spanHolds pairHolds
+    cardIn cardOf blocksOf ownBytes headBytes slotsBytes slotBytes sealed checked sumsOf twoBytes fourBytes decimal digitsIn
+fromList list = toCard mostEntries list
+
+pub gattaca-card : toCard mostEntries gattaca ≡ onOutput gattacaCard
+unfolding fromList gattacaCard
+gattaca-card = refl
+
+pub from-0 : toCard mostEntries (ascii "GAT\t0-1\nATT\t0-2\nTTA\t1-3\nTAC\t2-4\nACA\t3-4\n") ≡ onErrors (ascii "refused 26 1\n")
+unfolding fromList
+from-0 = refl
+
+pub carriage-returns : toCard mostEntries (ascii "GAT\t1-2\r\nATT\t1-3\r\nTTA\t2-4\r\nTAC\t3-5\r\nACA\t4-5\r\n")
+    ≡ onErrors (ascii "refused 23 1\n")
+unfolding fromList
+carriage-returns = refl
+
+-- ---- from a card
+
+unfoldable fromCard : List ℕ → Streams
+unfolding toList exporting readingOrder headTests fieldTests laterTests slotsTests first inTurn row
+    blockTests blockAt checks sumsOf indexOf twoAt fourAt formOf formatOf headSpare slotsSpare
+    slotAt slotOf entryTests placesHold spanHolds pairHolds listedFor lineText letters letterOf decimal digitsIn
+fromCard card = toList mostEntries card
+
+pub gattaca-list : toList mostEntries gattacaCard ≡ onOutput gattaca
+unfolding fromCard gattacaCard
+gattaca-list = refl
+
+-- ---- a list that is too long
+
+pub too-long-line : tooLong ≡ ascii "list2card: more than 1048576 bytes\n"
+unfolding tooLong decimal digitsIn
+too-long-line = refl

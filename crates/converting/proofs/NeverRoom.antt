@@ -1,0 +1,143 @@
+-- With room for the longest card, and for the list of every card, 12 never comes: neither program writes `refused 12 0`. Assumes nothing.
+use mathlib.Core.Path.{_≡_, refl, sym, ap, _∙_}
+use mathlib.Core.Logic.{⊎-elim}
+use mathlib.Core.Bool.{Bool, true, false, not, cond, _&&_}
+use mathlib.Core.List.{List, [], _++_}
+use Prim.Native.Nat.{ℕ, _/_, _<_}
+use Prim.Native.Char.{code}
+use native.Mathlib.Nat.{eq-zero-or-pos}
+use native.Mathlib.Omega.{arith}
+use lib.ListN.{length, getD, drop}
+use lib.Dec.{leb, ltb, eqb}
+use borrow.Author.Tests.{le-leb, ltb-true, lt-ltb, eqb-false, ne-eqb, not-true}
+use Rattle.answers.specs.Numbers.{Room}
+use Rattle.answers.specs.Answer.{Answer, given, refused, Sound, sound, Test, first}
+use Rattle.answers.proofs.Laws.{first-holds, first-refused, first-last, given-not-refused}
+use Rattle.answers.proofs.Tests.{both}
+use Rattle.entries.specs.Slot.{slotFrom}
+use Rattle.entries.specs.Fault.{entryTests}
+use Rattle.layout.specs.Bounds.{leastEntries, mostEntries}
+use Rattle.layout.specs.Layout.{sizeOf}
+use Rattle.layout.proofs.Laws.{within-both}
+use Rattle.card.specs.Reading.{readingOrder}
+use Rattle.card.proofs.FetchingLaws.{admission-given}
+use Rattle.card.proofs.NumberLaws.{each, each-turns, each-refused, reader-below}
+use Rattle.lists.specs.Lists.{formatFor, listsTests}
+use Rattle.lists.proofs.Laws.{lists-accepted}
+use Rattle.text.specs.Text.{ascii, digitsIn, decimal, refusalLine}
+use Rattle.text.proofs.DecimalLaws.{decimal-one, decimal-more}
+use Rattle.probes.specs.Lines.{linesOf}
+use Rattle.probes.specs.Testing.{saidTests, lineTests, testsAt, textTests}
+use Rattle.importing.specs.Importing.{kindIn, lettersIn, wordsIn, onesIn, twosIn, cardIn, importing}
+use Rattle.exporting.specs.Exporting.{listOf, exporting, listRoom}
+use Rattle.exporting.proofs.ExportRoom.{list-short}
+use Rattle.input.specs.Input.{mostList}
+use Rattle.converting.specs.Converting.{byAnswer, tooLong, toCard, toList}
+
+-- ---- the numbers that come
+
+-- a number of at most two digits, and not 12
+abbrev isOther : ℕ → Bool
+isOther n = ltb n 100 && not (eqb n Room)
+
+text-other : (list : List ℕ) → each isOther (textTests list) ≡ true
+unfolding textTests lineTests saidTests
+text-other list = each-turns isOther (testsAt list) (λ e. refl) (length (linesOf list)) 0
+
+lists-other : (limit kind l : ℕ) (words ones twos : List ℕ) → each isOther (listsTests limit kind l words ones twos) ≡ true
+unfolding listsTests entryTests
+lists-other limit kind l words ones twos =
+    each-turns isOther (λ e. entryTests (formatFor kind l words) e (slotFrom words ones twos e)) (λ e. refl) (length words) 0
+
+module _ (limit : ℕ) (list : List ℕ) {n p : ℕ} (e : importing limit list (sizeOf limit) ≡ refused n p) where
+  abbrev tests : List Test
+  tests = listsTests limit (kindIn list) (lettersIn list) (wordsIn list) (onesIn list) (twosIn list)
+
+  abbrev size : ℕ
+  size = sizeOf (length (wordsIn list))
+
+  import-other : isOther n ≡ true
+  unfolding importing
+  import-other = texts (first (textTests list) sound) refl
+    where
+      by-lists : first (textTests list) sound ≡ given sound → (a : Answer Sound) → first tests sound ≡ a → isOther n ≡ true
+      by-lists holds (given sound) held =
+          let few = within-both leastEntries limit (length (wordsIn list)) (lists-accepted held .count) .1 in
+          let room : leb size (sizeOf limit) ≡ true = le-leb size (sizeOf limit) (omega arith) in
+          let says : importing limit list (sizeOf limit) ≡ given size =
+          first-holds _ _ (textTests list) holds ∙ first-holds _ _ tests held ∙ first-last _ _ _ _ room in
+          absurd (given-not-refused (sym says ∙ e))
+      by-lists holds (refused k q) stops =
+          let says : importing limit list (sizeOf limit) ≡ refused k q =
+          first-holds _ _ (textTests list) holds ∙ first-refused _ _ tests stops in
+          let same : k ≡ n = cc in
+          rw same at (each-refused isOther tests sound (lists-other limit _ _ _ _ _) stops)
+
+      texts : (a : Answer Sound) → first (textTests list) sound ≡ a → isOther n ≡ true
+      texts (given sound) holds = by-lists holds (first tests sound) refl
+      texts (refused k q) stops =
+          let same : k ≡ n = cc (first-refused _ _ (textTests list) stops) in
+          rw same at (each-refused isOther (textTests list) sound (text-other list) stops)
+
+module _ (card : List ℕ) {n p : ℕ} (e : exporting mostEntries card (listRoom mostEntries) ≡ refused n p) where
+  export-other : isOther n ≡ true
+  unfolding exporting
+  export-other = go (first (readingOrder mostEntries card) sound) refl
+    where
+      go : (a : Answer Sound) → first (readingOrder mostEntries card) sound ≡ a → isOther n ≡ true
+      go (given sound) holds =
+          let room = le-leb _ _ (list-short mostEntries (omega arith) card (admission-given mostEntries card holds)) in
+          absurd (given-not-refused (sym (first-holds _ _ (readingOrder mostEntries card) holds ∙ first-last _ _ _ _ room) ∙ e))
+      go (refused k q) stops =
+          let same : k ≡ n = cc (first-refused _ _ (readingOrder mostEntries card) stops) in
+          let few = rw same at (reader-below mostEntries card sound stops) in
+          rw (lt-ltb n 100 (omega arith)) (rw (ne-eqb n Room (λ z. omega arith)) refl)
+
+-- ---- nor is it written
+
+-- the first two bytes of a number of at most two digits, or the space after it, tell it from 12
+twelve : (n : ℕ) (rest more : List ℕ) → n < 100 → decimal n ++ (ascii " " ++ rest) ≡ decimal Room ++ more → n ≡ Room
+unfolding decimal digitsIn
+twelve n rest more h e = ⊎-elim one two (eq-zero-or-pos (n / 10))
+  where
+    first-byte : getD (decimal n ++ (ascii " " ++ rest)) 0 0 ≡ code "1"
+    first-byte = ap (λ (xs : List ℕ). getD xs 0 0) e
+
+    second-byte : getD (decimal n ++ (ascii " " ++ rest)) 1 0 ≡ code "2"
+    second-byte = ap (λ (xs : List ℕ). getD xs 1 0) e
+
+    one : n / 10 ≡ 0 → n ≡ Room
+    one g = let z : code " " ≡ code "2" = rw (decimal-one n (omega arith)) at second-byte in absurd (omega arith)
+
+    two : 0 < n / 10 → n ≡ Room
+    two g =
+        let tens = rw (decimal-more n (omega arith), decimal-one (n / 10) (omega arith)) at first-byte in
+        let ones = rw (decimal-more n (omega arith), decimal-one (n / 10) (omega arith)) at second-byte in
+        omega (arith, tens, ones)
+
+other-line : (n p q : ℕ) → isOther n ≡ true → refusalLine n p ≡ refusalLine Room q → ⊥
+other-line n p q own e =
+    let parts = both (ltb n 100) (not (eqb n Room)) own in
+    let same = twelve n _ _ (ltb-true n 100 (parts .0)) (ap (drop (length (ascii "refused "))) e) in
+    eqb-false n Room (not-true (eqb n Room) (parts .1)) same
+
+answered-other : (bytes : List ℕ) (a : Answer ℕ) → ((n p : ℕ) → a ≡ refused n p → isOther n ≡ true) → (q : ℕ)
+    → byAnswer bytes a .errors ≡ refusalLine Room q → ⊥
+answered-other bytes (given n) own q e = let z : 0 ≡ code "r" = ap (λ (xs : List ℕ). getD xs 0 0) e in omega arith
+answered-other bytes (refused n p) own q e = other-line n p q (own n p refl) e
+
+module _ (limit : ℕ) (list : List ℕ) (p : ℕ) where
+  abbrev answer : Answer ℕ
+  answer = importing limit list (sizeOf limit)
+
+  pub card-never : toCard limit list .errors ≡ refusalLine Room p → ⊥
+  unfolding toCard tooLong
+  card-never e = go (leb (length list) mostList) e
+    where
+      go : (t : Bool) → cond t (byAnswer (cardIn list) answer) (record { output = []; errors = tooLong }) .errors ≡ refusalLine Room p → ⊥
+      go true e = answered-other (cardIn list) answer (λ n k is. import-other limit list is) p e
+      go false e = let z : code "l" ≡ code "r" = ap (λ (xs : List ℕ). getD xs 0 0) e in omega arith
+
+pub list-never : (card : List ℕ) (p : ℕ) → toList mostEntries card .errors ≡ refusalLine Room p → ⊥
+unfolding toList
+list-never card p e = answered-other (listOf card) (exporting mostEntries card (listRoom mostEntries)) (λ n k is. export-other card is) p e

@@ -1,0 +1,94 @@
+-- What exporting answers, and what an admitted card has, that this crate's proofs cite. Assumes nothing.
+use mathlib.Core.Path.{_≡_, refl, sym, ap, _∙_}
+use mathlib.Core.Bool.{true}
+use mathlib.Core.List.{List, _++_}
+use Prim.Native.Nat.{ℕ, _+_, _*_, _/_, _≤_, _<_}
+use native.Mathlib.Omega.{arith}
+use lib.ListN.{length, drop}
+use borrow.Author.Tests.{le-leb, lt-leb}
+use Rattle.answers.specs.declared.Refusal.{Refusal}
+use Rattle.answers.specs.Numbers.{Room}
+use Rattle.answers.specs.Answer.{given, refused, sound}
+use Rattle.answers.specs.Row.{row}
+use Rattle.answers.proofs.Laws.{first-holds, first-refused, first-refused-any, first-fail, first-last}
+use Rattle.block.specs.Block.{blockBytes}
+use Rattle.entries.specs.declared.Format.{Format}
+use Rattle.entries.specs.Fault.{leastLength, mostLength}
+use Rattle.layout.specs.Bounds.{leastEntries, mostEntries}
+use Rattle.layout.specs.Layout.{perBlock, toldBy, slotOf}
+use Rattle.layout.proofs.Laws.{within-both}
+use Rattle.card.specs.Reading.{readingOrder}
+use Rattle.card.specs.Fetching.{admission}
+use Rattle.card.proofs.FetchingLaws.{admission-admits}
+use Rattle.lists.proofs.AdmittedLaws.{its-reads, its-told, admitted-size}
+use Rattle.probes.specs.Line.{lineText, mostLine, isSmall}
+use Rattle.probes.proofs.LengthLaws.{line-few}
+use Rattle.sequence.proofs.LetterLaws.{length-letters}
+use Rattle.exporting.specs.declared.Exported.the-variants.{Text, Refused}
+use Rattle.exporting.specs.Exporting.{listedFor, textOf, listOf, exporting, Exports}
+use Rattle.exporting.proofs.AdmittedLines.{back, line-fine}
+use Rattle.exporting.proofs.LoopLaws.{lineAt}
+
+module _ (card : List ℕ) {f : Format} (admitted : admission mostEntries card ≡ given f) where
+  told : f ≡ toldBy card
+  told = its-told mostEntries card admitted
+
+  pub list-is : listOf card ≡ textOf (row (lineAt f card) 0 (f .m))
+  list-is = rw (sym told) refl
+
+  pub its-bounds : (0 < f .l) × (f .l ≤ mostLength) × (f .m ≤ mostEntries)
+  its-bounds =
+      let reads = its-reads mostEntries card admitted in
+      let letters = within-both leastLength mostLength (toldBy card .l) (reads .letters) in
+      let count = within-both leastEntries mostEntries (toldBy card .m) (reads .count) in
+      rw told (omega (arith, letters .0), letters .1, count .1)
+
+  pub slot-there : (e : ℕ) → e < f .m → blockBytes * (1 + e / perBlock) + blockBytes ≤ length card
+  slot-there e h = omega (arith, admitted-size mostEntries card admitted)
+
+  pub its-small : (e : ℕ) → e < f .m → isSmall (listedFor (f .kind) (slotOf card e)) ≡ true
+  its-small e h = rw told (back mostEntries (omega arith) card (rw told at admitted) e (rw told at h) .small)
+
+  pub its-short : (e : ℕ) → e < f .m → length (lineText (lineAt f card e)) ≤ mostLine
+  its-short e h =
+      rw told
+      (line-few (lineAt (toldBy card) card e) (line-fine mostEntries (omega arith) card (rw told at admitted) e (rw told at h))
+      (omega (arith, length-letters (toldBy card .l) (slotOf card e .word), rw told at (its-bounds .1))))
+
+-- ---- what it answers
+
+module _ (limit : ℕ) (card : List ℕ) {f : Format} (admitted : admission limit card ≡ given f) (room : ℕ) where
+  pub list-given : length (listOf card) ≤ room → exporting limit card room ≡ given (length (listOf card))
+  unfolding exporting
+  list-given h =
+      first-holds _ _ (readingOrder limit card) (admission-admits limit card admitted .order)
+      ∙ first-last _ _ _ _ (le-leb (length (listOf card)) room h)
+
+  pub list-no-room : room < length (listOf card) → exporting limit card room ≡ refused Room 0
+  unfolding exporting
+  list-no-room h =
+      first-holds _ _ (readingOrder limit card) (admission-admits limit card admitted .order)
+      ∙ first-fail _ _ _ _ _ (lt-leb (length (listOf card)) room h)
+
+module _ (card : List ℕ) {f : Format} (admitted : admission mostEntries card ≡ given f) {before : List ℕ} {n : ℕ} (e : n ≡ length (listOf card)) where
+  pub export-no-room : length before < n → Exports mostEntries card before (Refused (record { number = Room; place = 0 })) before
+  export-no-room h =
+      let says = list-no-room mostEntries card admitted (length before) (omega arith) in
+      record { answer = sym says; bytes = rw says }
+
+  pub export-text : {part : List ℕ} → n ≤ length before → part ≡ listOf card → Exports mostEntries card before (Text n) (part ++ drop n before)
+  export-text h is =
+      let says : exporting mostEntries card (length before) ≡ given n =
+      list-given mostEntries card admitted (length before) (omega arith) ∙ ap given (sym e) in
+      record { answer = sym says; bytes = rw says (ap (λ (t : List ℕ). t ++ drop n before) is) }
+
+-- the reader's refusals
+pub card-refused : (limit : ℕ) (card : List ℕ) (room : ℕ) {n p : ℕ} → admission limit card ≡ refused n p → exporting limit card room ≡ refused n p
+unfolding exporting admission
+card-refused limit card room e = first-refused _ _ (readingOrder limit card) (first-refused-any (readingOrder limit card) (toldBy card) sound e)
+
+pub export-refused : {card before : List ℕ} {n : Refusal} → admission mostEntries card ≡ refused (n .number) (n .place)
+    → Exports mostEntries card before (Refused n) before
+export-refused {card} {before} e =
+    let says = card-refused mostEntries card (length before) e in
+    record { answer = sym says; bytes = rw says }

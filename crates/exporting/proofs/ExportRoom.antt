@@ -1,0 +1,38 @@
+-- Room for the list of every card: an output of `listRoom` bytes is never too short. Assumes nothing.
+use mathlib.Core.Path.{_≡_, refl, sym, _∙_}
+use mathlib.Core.List.{List, _++_}
+use Prim.Native.Nat.{ℕ, _≤_}
+use native.Mathlib.Omega.{arith}
+use lib.ListN.{length, drop}
+use Rattle.answers.specs.Answer.{given}
+use Rattle.layout.specs.Layout.{toldBy}
+use Rattle.card.specs.Fetching.{admission}
+use Rattle.writer.specs.declared.Written.the-variants.{Card}
+use Rattle.writer.specs.Writing.{outputAfter}
+use Rattle.probes.specs.Line.{mostNumber}
+use Rattle.importing.specs.Importing.{cardIn, importing, Imports}
+use Rattle.importing.proofs.Imported.{imported-short}
+use Rattle.exporting.specs.declared.Exported.{Exported}
+use Rattle.exporting.specs.Exporting.{listOf, listRoom, saysExported, Exports}
+use Rattle.exporting.proofs.RoundTrip.{listed-imports}
+use Rattle.exporting.proofs.ExportLaws.{list-given}
+
+module _ (limit : ℕ) (few : limit ≤ mostNumber) (card : List ℕ) (admitted : admission limit card ≡ given (toldBy card)) where
+  -- the list is imported, and no longer list is
+  pub list-short : length (listOf card) ≤ listRoom limit
+  list-short =
+      let says = listed-imports limit few card admitted (length card) (omega arith) in
+      let after : List ℕ = outputAfter (cardIn (listOf card)) card (importing limit (listOf card) (length card)) in
+      let did : Imports limit (listOf card) card (Card (length card)) after = record { answer = sym says; bytes = refl } in
+      imported-short did refl
+
+  -- an admitted card is exported, where there is room for its list, and so where there is room for every list
+  pub export-given : {before after : List ℕ} {r : Exported} → Exports limit card before r after → length (listOf card) ≤ length before
+      → (saysExported r ≡ given (length (listOf card))) × (after ≡ listOf card ++ drop (length (listOf card)) before)
+  export-given {before} did room =
+      let says = list-given limit card admitted (length before) room in
+      (did .answer ∙ says, rw says at (did .bytes))
+
+  pub export-room : {before after : List ℕ} {r : Exported} → Exports limit card before r after → listRoom limit ≤ length before
+      → saysExported r ≡ given (length (listOf card))
+  export-room did room = export-given did (omega (arith, list-short)) .0

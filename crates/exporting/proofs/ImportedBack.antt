@@ -1,0 +1,90 @@
+-- An imported list, exported again, and imported once more. Assumes nothing.
+use mathlib.Core.Path.{_≡_, sym, ap, _∙_}
+use mathlib.Core.Logic.{_⊎_}
+use mathlib.Core.List.{List, _++_, map}
+use Prim.Native.Nat.{ℕ, _≤_, _<_}
+use lib.ListN.{length, take, drop}
+use Rattle.answers.specs.Answer.{given}
+use Rattle.entries.specs.declared.Format.{Format}
+use Rattle.entries.specs.Fault.{pair}
+use Rattle.entries.specs.Slot.{slotFrom}
+use Rattle.layout.specs.Layout.{toldBy, slotOf}
+use Rattle.layout.specs.Card.{cardOf}
+use Rattle.layout.proofs.CardLaws.{length-card, card-slot, card-same}
+use Rattle.card.specs.Fetching.{admission}
+use Rattle.lists.specs.Lists.{formatFor}
+use Rattle.lists.proofs.AdmittedLaws.{itsWords, itsOnes, itsTwos, format-same, slot-same}
+use Rattle.writer.specs.declared.Written.{Written}
+use Rattle.writer.specs.Writing.{saysWritten}
+use Rattle.writer.proofs.WritingLaws.{wrote-size}
+use Rattle.writer.proofs.RoundTrip.{read-back}
+use Rattle.probes.specs.Line.{mostNumber}
+use Rattle.probes.specs.Lines.{linesOf, linesIn, lineIn}
+use Rattle.probes.specs.Testing.{lineMark}
+use Rattle.importing.specs.Importing.{kindIn, lettersIn, wordsIn, onesIn, twosIn, cardIn, importing, Imports}
+use Rattle.importing.proofs.SoundCard.{told-in}
+use Rattle.importing.proofs.Imported.{imported-sound, imported-writes, imported-card}
+use Rattle.exporting.specs.declared.Exported.{Exported}
+use Rattle.exporting.specs.Exporting.{textOf, listOf, spelledOut, backOf, saysExported, Exports}
+use Rattle.exporting.proofs.RoundTrip.{listed-card, listed-imports, exported-list}
+use Rattle.exporting.proofs.SpelledOut.{list-again, own-list}
+use Rattle.exporting.proofs.ExportRoom.{export-given}
+
+-- a card's own lists make the card of a text again
+made-again : (limit : ℕ) (text : List ℕ) (admitted : admission limit (cardIn text) ≡ given (toldBy (cardIn text)))
+    → cardOf (formatFor (toldBy (cardIn text) .kind) (toldBy (cardIn text) .l) (itsWords limit (cardIn text) admitted))
+    (slotFrom (itsWords limit (cardIn text) admitted) (itsOnes limit (cardIn text) admitted) (itsTwos limit (cardIn text) admitted))
+    ≡ cardIn text
+unfolding cardIn
+made-again limit text admitted =
+    let card = cardIn text in
+    let format = formatFor (kindIn text) (lettersIn text) (wordsIn text) in
+    let slots = slotFrom (wordsIn text) (onesIn text) (twosIn text) in
+    let its = slotFrom (itsWords limit (cardIn text) admitted) (itsOnes limit (cardIn text) admitted) (itsTwos limit (cardIn text) admitted) in
+    ap (λ (g : Format). cardOf g its) (format-same limit card admitted)
+    ∙ card-same (toldBy card) its (slotOf card) (slot-same limit card admitted)
+    ∙ ap (λ (g : Format). cardOf g (slotOf card)) (told-in text)
+    ∙ card-same format (slotOf card) slots (card-slot format slots)
+
+module _ {limit : ℕ} (few : limit ≤ mostNumber) {text before after : List ℕ} {r : Written} {n : ℕ}
+    (did : Imports limit text before r after) (said : saysWritten r ≡ given n) where
+  admitted : admission limit (cardIn text) ≡ given (toldBy (cardIn text))
+  admitted = rw (imported-card did said) at (read-back (imported-writes did said) said .admitted) ∙ ap given (sym (told-in text))
+
+  card-long : length (cardIn text) ≡ n
+  unfolding cardIn
+  card-long =
+      length-card (formatFor (kindIn text) (lettersIn text) (wordsIn text)) (slotFrom (wordsIn text) (onesIn text) (twosIn text))
+      ∙ wrote-size (imported-writes did said) said
+
+  listed : listOf (cardIn text) ≡ backOf text
+  listed = list-again text (imported-sound did said)
+
+  module _ {out end : List ℕ} {q : Exported} (back : Exports limit (take n after) out q end) where
+    exports : Exports limit (cardIn text) out q end
+    exports = rw (imported-card did said) at back
+
+    -- the card of an imported list is exported to the list, with each bare p of a span list as p-p
+    pub imported-exports : length (backOf text) ≤ length out
+        → (saysExported q ≡ given (length (backOf text))) × (end ≡ backOf text ++ drop (length (backOf text)) out)
+    imported-exports room = rw listed at (export-given limit few (cardIn text) admitted exports (rw listed room))
+
+    module _ {k : ℕ} (told : saysExported q ≡ given k) where
+      back-list : take k end ≡ listOf (cardIn text)
+      back-list = exported-list limit few (cardIn text) exports told
+
+      -- a bare number on a span list is the one exception
+      pub own-bytes : (kindIn text ≡ pair) ⊎ ((e : ℕ) → e < length (linesOf text) → lineMark (lineIn text e) ≡ 0 → ⊥) → take k end ≡ text
+      own-bytes h = back-list ∙ own-list text (imported-sound did said) h
+
+      -- and it is imported to the same card
+      pub imports-again : {room last : List ℕ} {w : Written} → Imports limit (take k end) room w last → n ≤ length room
+          → (saysWritten w ≡ given n) × (last ≡ take n after ++ drop n room)
+      imports-again {room} {last} again h =
+          let own = rw back-list at again in
+          let answer : importing limit (listOf (cardIn text)) (length room) ≡ given n =
+          listed-imports limit few (cardIn text) admitted (length room) (rw card-long h) ∙ ap given card-long in
+          let same : cardIn (listOf (cardIn text)) ≡ take n after =
+          listed-card limit few (cardIn text) admitted ∙ made-again limit text admitted ∙ sym (imported-card did said) in
+          let bytes : last ≡ cardIn (listOf (cardIn text)) ++ drop n room = rw answer at (own .bytes) in
+          (own .answer ∙ answer, bytes ∙ ap (λ (xs : List ℕ). xs ++ drop n room) same)

@@ -1,0 +1,14 @@
+-- Whatever exporting refuses by is above 0. Assumes nothing.
+use mathlib.Core.Path.{_≡_}
+use mathlib.Core.List.{List}
+use Prim.Native.Nat.{ℕ, _<_}
+use native.Mathlib.Omega.{arith}
+use Rattle.answers.specs.Numbers.{Room}
+use Rattle.answers.specs.Answer.{refused}
+use Rattle.answers.proofs.Numbered.{none, also, numbered-append, numbered-refused}
+use Rattle.card.proofs.RefusalNumbers.{order-numbered}
+use Rattle.exporting.specs.Exporting.{exporting}
+
+pub exporting-number : (limit : ℕ) (card : List ℕ) (room : ℕ) {n p : ℕ} → exporting limit card room ≡ refused n p → 0 < n
+unfolding exporting
+exporting-number limit card room e = numbered-refused (numbered-append (order-numbered limit card) (also {n = Room} (omega arith) none)) _ e

@@ -1,0 +1,92 @@
+-- "Export from a card back to a list … must import to the same card." Assumes nothing.
+use mathlib.Core.Path.{_≡_, refl, sym, ap, _∙_}
+use mathlib.Core.List.{List, _++_}
+use Prim.Native.Nat.{ℕ, _≤_}
+use native.Mathlib.Omega.{arith}
+use lib.ListN.{length, take, drop}
+use borrow.Author.Tests.{le-leb}
+use Rattle.answers.specs.Answer.{given}
+use Rattle.answers.proofs.Laws.{first-holds, first-last, first-both, first-value}
+use Rattle.entries.specs.Slot.{slotFrom}
+use Rattle.layout.specs.Layout.{toldBy, sizeOf}
+use Rattle.layout.specs.Card.{cardOf}
+use Rattle.card.specs.Fetching.{admission}
+use Rattle.lists.specs.Lists.{formatFor, listsTests}
+use Rattle.lists.proofs.Laws.{accepted-lists}
+use Rattle.lists.proofs.AdmittedLaws.{itsWords, itsOnes, itsTwos, length-its, admitted-size, its-accepted}
+use Rattle.writer.specs.Writing.{writing, saysWritten}
+use Rattle.probes.specs.Line.{mostNumber}
+use Rattle.importing.specs.Importing.{cardIn, importing, Imports}
+use Rattle.importing.proofs.ImportingLaws.{importing-writes}
+use Rattle.exporting.specs.Exporting.{listOf, exporting, saysExported, Exports}
+use lib.Seq.{take-at}
+use Rattle.block.specs.Bytes.{AreBytes}
+use Rattle.card.specs.Reading.{readingOrder}
+use Rattle.card.proofs.FetchingLaws.{admission-given}
+use Rattle.writer.specs.declared.Written.{Written}
+use Rattle.writer.proofs.AgainLaws.{again-card}
+use Rattle.exporting.specs.declared.Exported.{Exported}
+use Rattle.exporting.proofs.ListBack.{listed-sound, listed-stands}
+
+module _ (limit : ℕ) (few : limit ≤ mostNumber) (card : List ℕ) (admitted : admission limit card ≡ given (toldBy card)) where
+  abbrev kind : ℕ
+  kind = toldBy card .kind
+
+  abbrev l : ℕ
+  l = toldBy card .l
+
+  -- the card of the list is that of the card's own lists
+  pub listed-card : cardIn (listOf card)
+      ≡ cardOf (formatFor kind l (itsWords limit card admitted))
+      (slotFrom (itsWords limit card admitted) (itsOnes limit card admitted) (itsTwos limit card admitted))
+  unfolding cardIn
+  listed-card =
+      let stands = listed-stands limit few card admitted in
+      rw (stands .same-twos) (rw (stands .same-kind, stands .same-letters) (rw (stands .same-words, stands .same-ones) refl))
+
+  -- and it is imported, where there is room
+  pub listed-imports : (room : ℕ) → length card ≤ room → importing limit (listOf card) room ≡ given (length card)
+  unfolding writing
+  listed-imports room h =
+      let stands = listed-stands limit few card admitted in
+      let words = itsWords limit card admitted in
+      let size : sizeOf (length (itsWords limit card admitted)) ≡ length card =
+      ap sizeOf (length-its limit card admitted) ∙ sym (admitted-size limit card admitted) in
+      importing-writes limit (listOf card) room (listed-sound limit few card admitted)
+      ∙ rw (stands .same-twos) (rw (stands .same-kind, stands .same-letters) (rw (stands .same-words, stands .same-ones)
+      (first-holds _ _ (listsTests limit kind l words (itsOnes limit card admitted) (itsTwos limit card admitted))
+      (accepted-lists (its-accepted limit card admitted))
+      ∙ first-last _ _ _ _ (le-leb (sizeOf (length words)) room (omega arith))
+      ∙ ap given size)))
+
+  -- "must import to the same card"
+  pub same-card : AreBytes card → cardIn (listOf card) ≡ card
+  same-card bytes = listed-card ∙ again-card limit card admitted bytes
+
+-- ---- by the contracts: what `export` wrote, imported
+
+module _ (limit : ℕ) (few : limit ≤ mostNumber) (card : List ℕ) {before after : List ℕ} {r : Exported} {n : ℕ}
+    (did : Exports limit card before r after) (said : saysExported r ≡ given n) where
+  exported-admitted : admission limit card ≡ given (toldBy card)
+  unfolding exporting
+  exported-admitted = admission-given limit card (first-both _ _ (readingOrder limit card) _ (sym (did .answer) ∙ said) .0)
+
+  -- the list is the first n bytes of the output
+  pub exported-list : take n after ≡ listOf card
+  unfolding exporting
+  exported-list =
+      let answer = sym (did .answer) ∙ said in
+      let size : length (listOf card) ≡ n = first-value _ (length (listOf card)) n answer in
+      let bytes : after ≡ listOf card ++ drop n before = rw answer at (did .bytes) in
+      ap (take n) bytes ∙ take-at (listOf card) (drop n before) n size
+
+  -- "must import to the same card"
+  pub exported-imports : {room end : List ℕ} {q : Written} → AreBytes card → Imports limit (take n after) room q end → length card ≤ length room
+      → (saysWritten q ≡ given (length card)) × (end ≡ card ++ drop (length card) room)
+  exported-imports {room} {end} bytes imports h =
+      let own = rw exported-list at imports in
+      let answer : importing limit (listOf card) (length room) ≡ given (length card) =
+      listed-imports limit few card exported-admitted (length room) h in
+      let same : cardIn (listOf card) ≡ card = same-card limit few card exported-admitted bytes in
+      let text : end ≡ cardIn (listOf card) ++ drop (length card) room = rw answer at (own .bytes) in
+      (own .answer ∙ answer, text ∙ ap (λ (xs : List ℕ). xs ++ drop (length card) room) same)

@@ -1,0 +1,82 @@
+-- Exporting a card to a probe list (02, §2): "without leading zeros and with a hyphen in every span (`7-7` if one wide)". `limit` is the
+-- most entries that a card may have.
+--   listedFor kind s                == what is listed of the entry s on a list of this kind: each place p as p + 1
+--   lineFor kind l s                == the line of the entry s
+--   textOf xs                       == the text of the lines xs
+--   linesFor f slots                == the lines of a card of this format and these entries
+--   listOf card                     == the probe list of a card
+--   exporting limit card room       == what exporting answers, where the output has `room` bytes: the reader's refusals, then 12
+--   Exports limit card before r after    == the answer r, and every byte of the output afterwards
+--   listRoom limit                  == room for the list of every card
+--   backOf text                     == what comes back of a list that is imported, and then exported
+--   spelledOut kind x               == the line x of a list of this kind, as it comes back: on a span list a bare p is p-p
+-- Assumes nothing.
+use mathlib.Core.Path.{_≡_}
+use Prim.Native.Nat.{ℕ, _+_, _*_}
+use mathlib.Core.Bool.{cond}
+use mathlib.Core.List.{List, [], _∷_, _++_, map}
+use lib.ListN.{length}
+use lib.Dec.{leb, eqb}
+use Rattle.answers.specs.Numbers.{Room}
+use Rattle.answers.specs.Answer.{Answer, given, refused, test, first}
+use Rattle.answers.specs.Row.{row}
+use Rattle.entries.specs.declared.Format.{Format}
+use Rattle.entries.specs.declared.Slot.{Slot}
+use Rattle.entries.specs.Fault.{span, noPlace}
+use Rattle.sequence.specs.Build.{lettersOf}
+use Rattle.layout.specs.Layout.{toldBy, slotOf}
+use Rattle.card.specs.Reading.{readingOrder}
+use Rattle.writer.specs.Writing.{outputAfter}
+use Rattle.probes.specs.declared.line.Marked.{Marked}
+use Rattle.probes.specs.declared.line.Marked.the-variants.{Bare, Two, Run}
+use Rattle.probes.specs.Lines.{linesIn}
+use Rattle.probes.specs.Line.{Line, lineText, mostLine}
+use Rattle.importing.specs.Importing.{kindIn}
+use Rattle.exporting.specs.declared.Exported.{Exported}
+use Rattle.exporting.specs.declared.Exported.the-variants.{Text, Refused}
+
+unfoldable pub listedFor : ℕ → Slot → Marked
+listedFor kind s =
+    cond (eqb kind span) (Run (s .one + 1) (s .two + 1)) (cond (eqb (s .two) noPlace) (Bare (s .one + 1)) (Two (s .one + 1) (s .two + 1)))
+
+abbrev pub lineFor : ℕ → ℕ → Slot → Line
+lineFor kind l s = record { word = lettersOf l (s .word); listed = listedFor kind s }
+
+abbrev pub textOf : List Line → List ℕ
+textOf [] = []
+textOf (x ∷ xs) = lineText x ++ textOf xs
+
+abbrev pub linesFor : Format → (ℕ → Slot) → List Line
+linesFor f slots = row (λ e. lineFor (f .kind) (f .l) (slots e)) 0 (f .m)
+
+abbrev pub listOf : List ℕ → List ℕ
+listOf card = textOf (linesFor (toldBy card) (slotOf card))
+
+unfoldable pub exporting : ℕ → List ℕ → ℕ → Answer ℕ
+exporting limit card room =
+    first (readingOrder limit card ++ (test (leb (length (listOf card)) room) Room 0 ∷ [])) (length (listOf card))
+
+-- room for the list of every card: for as many of the longest lines as it may have entries
+abbrev pub listRoom : ℕ → ℕ
+listRoom limit = mostLine * limit
+
+abbrev pub saysExported : Exported → Answer ℕ
+saysExported (Text n) = given n
+saysExported (Refused r) = refused (r .number) (r .place)
+
+pub record Exports (limit : ℕ) (card before : List ℕ) (r : Exported) (after : List ℕ) : Type 0 where
+  pub answer : saysExported r ≡ exporting limit card (length before)
+  pub bytes : after ≡ outputAfter (listOf card) before (exporting limit card (length before))
+
+-- "On a span list a bare `7` means 7-7."
+abbrev pub hyphened : ℕ → Marked → Marked
+hyphened kind (Bare p) = cond (eqb kind span) (Run p p) (Bare p)
+hyphened kind (Two p q) = Two p q
+hyphened kind (Run p q) = Run p q
+
+abbrev pub spelledOut : ℕ → Line → Line
+spelledOut kind x = record { word = x .word; listed = hyphened kind (x .listed) }
+
+-- what comes back of a list
+abbrev pub backOf : List ℕ → List ℕ
+backOf text = textOf (map (spelledOut (kindIn text)) (linesIn text))

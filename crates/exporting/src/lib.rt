@@ -1,0 +1,68 @@
+// Exporting a card to a probe list: from an admitted card to its text at the start of a lent output. `export` has no `requires`: it tests
+// its own input. `measuring` says how long the list is, `putting` puts it.
+mod measuring;
+mod putting;
+
+ghost use mathlib.Core.Path.{_≡_};
+ghost use mathlib.Core.Bool.{true};
+ghost use Rattle.answers.specs.Answer.{given};
+ghost use Rattle.layout.specs.Bounds.{mostEntries};
+ghost use Rattle.card.specs.Fetching.{admission};
+ghost use Rattle.probes.specs.Line.{isSmall};
+ghost use Rattle.exporting.specs.Exporting.{listedFor, Exports};
+use answers::Refusal;
+use card::Admitted;
+use entries::Format;
+use entries::Slot;
+use probes::line::Marked;
+
+// The most bytes of a line that a card can have: 12 letters, a tab, two numbers of five digits with a mark between them, and a newline.
+const MOST_LINE: usize = entries::MOST_LENGTH + 13;
+// Room for the list of every card.
+pub const LIST: usize = MOST_LINE * layout::MOST;
+
+// What exporting answers: the list's length in bytes, or the refusal.
+pub enum Exported {
+    Text(usize),
+    Refused(Refusal),
+}
+
+// What is listed of an entry on a list of this kind.
+fn listed_for(kind: usize, s: Slot) -> Marked
+    requires { ⌜ isSmall (listedFor kind s) ≡ true ⌝ }
+    ensures { λ r. ⌜ r ≡ listedFor kind s ⌝ }
+{
+    if kind == entries::SPAN {
+        return Marked::Run(s.one + 1, s.two + 1);
+    }
+    if s.two == entries::NO_PLACE {
+        return Marked::Bare(s.one + 1);
+    }
+    Marked::Two(s.one + 1, s.two + 1)
+}
+
+// Exports an admitted card.
+fn export_card(card: &[u8], f: Format, out: &mut [u8]) -> Exported
+    requires { ⌜ admission mostEntries (now card) ≡ given f ⌝ }
+    ensures { λ r. ⌜ Exports mostEntries (now (card .entry)) (now (out .entry)) r (now (out .exit)) ⌝ }
+{
+    let n = measuring::text_length(card, f);
+    if out.len() < n {
+        return Exported::Refused(Refusal {
+            number: answers::ROOM,
+            place: 0,
+        });
+    }
+    putting::put_lines(card, f, &mut out[..n]);
+    Exported::Text(n)
+}
+
+// The probe list of a card at the start of the output, with its length; or the refusal, and then no byte of the output differs.
+pub fn export(card: &[u8], out: &mut [u8]) -> Exported
+    ensures { λ r. ⌜ Exports mostEntries (now (card .entry)) (now (out .entry)) r (now (out .exit)) ⌝ }
+{
+    match card::admit(card) {
+        Admitted::Card(f) => export_card(card, f, out),
+        Admitted::Refused(r) => Exported::Refused(r),
+    }
+}

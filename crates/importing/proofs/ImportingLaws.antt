@@ -1,0 +1,121 @@
+-- The laws of importing that this crate's proofs cite. Assumes nothing.
+use mathlib.Core.Path.{_≡_, refl, sym, ap, _∙_}
+use mathlib.Core.Bool.{Bool, true, false, cond}
+use mathlib.Core.List.{List, [], _∷_, _++_, map}
+use Prim.Native.Nat.{ℕ, _≤_}
+use native.Mathlib.Omega.{arith}
+use lib.ListN.{length, take, length-map}
+use lib.Seq.{take-all}
+use lib.Dec.{eqb}
+use borrow.Author.Tests.{eq-eqb}
+use Rattle.answers.specs.declared.Refusal.{Refusal}
+use Rattle.answers.specs.Numbers.{Length, Count}
+use Rattle.answers.specs.Answer.{given, refused, sound}
+use Rattle.answers.proofs.Laws.{first-holds, first-refused, first-refused-any, first-given-any}
+use Rattle.entries.specs.Fault.{pair, span, leastLength, mostLength}
+use Rattle.layout.specs.Bounds.{leastEntries, mostEntries, isWithin, isKind}
+use Rattle.layout.proofs.Laws.{within-both}
+use Rattle.lists.specs.Lists.{sameLength}
+use Rattle.lists.proofs.Laws.{length-wrong, count-wrong}
+use Rattle.writer.specs.declared.Written.{Written}
+use Rattle.writer.specs.declared.Written.the-variants.{Refused}
+use Rattle.writer.specs.Writing.{writing, Writes}
+use Rattle.writer.proofs.WritingLaws.{lists-refused}
+use Rattle.probes.specs.declared.scanning.Outline.{Outline}
+use Rattle.probes.specs.Lines.{linesOf, lineOf, linesIn}
+use Rattle.probes.specs.Testing.{outlineOf, textTests, scanning, kindOf}
+use Rattle.probes.specs.Listing.{valueOf, oneOf, twoOf, twosOf}
+use Rattle.probes.specs.Keeping.{wordKept, oneKept, twoKept, Keeps, closedFor}
+use Rattle.probes.proofs.SoundLaws.{sound-shape, sound-count}
+use Rattle.probes.proofs.KeptLaws.{words-kept, twos-kept}
+use Rattle.importing.specs.Importing.{kindIn, lettersIn, wordsIn, onesIn, twosIn, cardIn, importing, Imports}
+use Rattle.importing.proofs.SoundCard.{words-many}
+
+-- of a sound text it is what writing its lists answers
+pub importing-writes : (limit : ℕ) (text : List ℕ) (room : ℕ) {s : Outline} → scanning text ≡ given s
+    → importing limit text room ≡ writing limit (kindIn text) (lettersIn text) (wordsIn text) (onesIn text) (twosIn text) room
+unfolding importing writing
+importing-writes limit text room {s} holds =
+    first-holds _ _ (textTests text) (first-given-any (textTests text) (outlineOf (linesIn text)) s sound holds)
+
+module _ (limit : ℕ) (text before : List ℕ) where
+  pub import-refused : {n : Refusal} → scanning text ≡ refused (n .number) (n .place) → Imports limit text before (Refused n) before
+  unfolding importing
+  import-refused {n} e =
+      let says : importing limit text (length before) ≡ refused (n .number) (n .place) =
+      first-refused _ _ (textTests text) (first-refused-any (textTests text) (outlineOf (linesIn text)) sound e) in
+      record { answer = sym says; bytes = rw says }
+
+  module _ {s : Outline} (holds : scanning text ≡ given s) where
+    pub import-sound : {r : Written} {after : List ℕ}
+        → Writes limit (kindOf (s .mark)) (s .l) (wordsIn text) (onesIn text) (twosIn text) before r after
+        → Imports limit text before r after
+    unfolding cardIn
+    import-sound did =
+        let shape = sound-shape text holds in
+        let own = rw shape at did in
+        record {
+          answer = own .answer ∙ sym (importing-writes limit text (length before) holds);
+          bytes = own .bytes ∙ rw (importing-writes limit text (length before) holds) refl;
+        }
+
+-- of lists whose second places were closed
+pub closed-writes : (mark : ℕ) (twos : List ℕ) {limit l kind : ℕ} {words ones closed before after : List ℕ} {r : Written} → kind ≡ kindOf mark
+    → closed ≡ closedFor kind ones twos → Writes limit kind l words ones closed before r after
+    → Writes limit (kindOf mark) l words ones (closedFor (kindOf mark) ones twos) before r after
+closed-writes mark twos is did wrote = rw is at (rw did at wrote)
+
+-- ---- the rules of a card
+
+pub few-letters : {l : ℕ} → isWithin leastLength mostLength l ≡ true → l ≤ mostLength
+few-letters {l} e = within-both leastLength mostLength l e .1
+
+pub few-entries : {m : ℕ} → isWithin leastEntries mostEntries m ≡ true → m ≤ mostEntries
+few-entries {m} e = within-both leastEntries mostEntries m e .1
+
+is-kind : (mark : ℕ) → isKind (kindOf mark) ≡ true
+is-kind mark = go (eqb mark span)
+  where
+    go : (t : Bool) → isKind (cond t span pair) ≡ true
+    go true = refl
+    go false = refl
+
+module _ (limit : ℕ) (text : List ℕ) {s : Outline} (holds : scanning text ≡ given s) where
+  words-long : length (wordsIn text) ≡ s .m
+  words-long = words-many text ∙ sym (sound-count text holds)
+
+  same : sameLength (wordsIn text) (onesIn text) (twosIn text) ≡ true
+  same =
+      let words = length-map (linesIn text) (λ x. valueOf (x .word)) in
+      let ones = length-map (linesIn text) (λ x. oneOf (x .listed)) in
+      let twos = length-map (linesIn text) (λ x. twoOf (kindIn text) (x .listed)) in
+      rw (eq-eqb (length (wordsIn text)) (length (onesIn text)) (words ∙ sym ones))
+      (eq-eqb (length (wordsIn text)) (length (twosIn text)) (words ∙ sym twos))
+
+  pub sound-length : {before : List ℕ} → isWithin leastLength mostLength (s .l) ≡ false
+      → Writes limit (kindOf (s .mark)) (s .l) (wordsIn text) (onesIn text) (twosIn text) before (Refused (record { number = Length; place = 0 })) before
+  sound-length e = lists-refused (length-wrong limit (kindOf (s .mark)) (s .l) _ _ _ (is-kind (s .mark)) e)
+
+  pub sound-many : {before : List ℕ} → isWithin leastLength mostLength (s .l) ≡ true → isWithin leastEntries limit (s .m) ≡ false
+      → Writes limit (kindOf (s .mark)) (s .l) (wordsIn text) (onesIn text) (twosIn text) before (Refused (record { number = Count; place = 0 })) before
+  sound-many letters e =
+      lists-refused (count-wrong limit (kindOf (s .mark)) (s .l) _ _ _ (is-kind (s .mark)) letters same (rw words-long e))
+
+  -- the lists that were kept
+  module _ {words ones twos : List ℕ} (keeps : Keeps (linesIn text) (s .m) words ones twos) where
+    all-lines : take (s .m) (linesIn text) ≡ linesIn text
+    all-lines = take-all (s .m) (linesIn text) (omega (arith, length-map (linesOf text) lineOf, sound-count text holds))
+
+    pub sound-written : {before after : List ℕ} {r : Written} → s .m ≤ length words → s .m ≤ length ones → s .m ≤ length twos → s .l ≤ mostLength
+        → Writes limit (kindOf (s .mark)) (s .l) (take (s .m) words) (take (s .m) ones)
+        (closedFor (kindOf (s .mark)) (take (s .m) ones) (take (s .m) twos)) before r after
+        → Writes limit (kindOf (s .mark)) (s .l) (wordsIn text) (onesIn text) (twosIn text) before r after
+    sound-written g h k short did =
+        let mark : s .mark ≡ outlineOf (linesIn text) .mark = ap (λ (t : Outline). t .mark) (sound-shape text holds) in
+        let is-words : take (s .m) words ≡ wordsIn text = keeps .in-words g ∙ ap (map wordKept) all-lines ∙ words-kept text holds short in
+        let is-ones : take (s .m) ones ≡ onesIn text = keeps .in-ones h ∙ ap (map oneKept) all-lines in
+        let is-twos : closedFor (kindOf (s .mark)) (take (s .m) ones) (take (s .m) twos) ≡ twosIn text =
+        ap (λ (l : List ℕ). closedFor (kindOf (s .mark)) l (take (s .m) twos)) is-ones
+        ∙ ap (closedFor (kindOf (s .mark)) (onesIn text)) (keeps .in-twos k ∙ ap (map twoKept) all-lines)
+        ∙ twos-kept text holds (kindOf (s .mark)) ∙ ap (λ (m : ℕ). twosOf (kindOf m) (linesIn text)) mark in
+        rw is-words at (rw is-ones at (rw is-twos at did))

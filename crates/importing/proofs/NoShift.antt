@@ -1,0 +1,36 @@
+-- "This is where the shift by one must be impossible": each entry of an imported card allows a place exactly if its line lists that place
+-- and one. Assumes nothing.
+use mathlib.Core.Path.{_≡_, ap, _∙_}
+use mathlib.Core.List.{List}
+use Prim.Native.Nat.{ℕ, _+_, _<_}
+use lib.ListN.{length, take}
+use Rattle.answers.specs.Answer.{given}
+use Rattle.entries.specs.declared.Entry.{Entry}
+use Rattle.entries.specs.Entry.{allows, entryOf}
+use Rattle.layout.specs.Layout.{entryAt}
+use Rattle.writer.specs.declared.Written.{Written}
+use Rattle.writer.specs.Writing.{saysWritten}
+use Rattle.probes.specs.declared.scanning.Outline.{Outline}
+use Rattle.probes.specs.Line.{lists}
+use Rattle.probes.specs.Lines.{linesOf, lineIn}
+use Rattle.probes.specs.Testing.{scanning}
+use Rattle.probes.specs.Listing.{slotFor}
+use Rattle.probes.proofs.NoShift.{entry-no-shift}
+use Rattle.importing.specs.Importing.{kindIn, cardIn, Imports}
+use Rattle.importing.proofs.SoundCard.{entry-in, own-line}
+use Rattle.importing.proofs.Imported.{imported-sound, imported-card}
+
+module _ (text : List ℕ) {s : Outline} (holds : scanning text ≡ given s) where
+  pub sound-no-shift : (e : ℕ) → e < length (linesOf text) → (q : ℕ)
+      → allows (entryAt (cardIn text) e .places) q ≡ lists (lineIn text e .listed) (q + 1)
+  unfolding entryOf slotFor
+  sound-no-shift e h q =
+      let own = own-line text holds e h in
+      ap (λ (x : Entry). allows (x .places) q) (entry-in text e h)
+      ∙ entry-no-shift (kindIn text) (lineIn text e .listed) (own .fine .small) (own .no-zero) (own .mark) q
+
+-- "each listed place p means card place p−1"
+pub no-shift : {limit : ℕ} {text before after : List ℕ} {r : Written} {n : ℕ}
+    → Imports limit text before r after → saysWritten r ≡ given n → (e : ℕ) → e < length (linesOf text) → (q : ℕ)
+    → allows (entryAt (take n after) e .places) q ≡ lists (lineIn text e .listed) (q + 1)
+no-shift {text} did said e h q = rw (imported-card did said) (sound-no-shift text (imported-sound did said) e h q)

@@ -1,0 +1,57 @@
+-- Worked examples of lines and of refusals. Assumes nothing.
+use mathlib.Core.Path.{_≡_, refl}
+use mathlib.Core.Bool.{Bool, true, false}
+use mathlib.Core.List.{List, [], _∷_, map}
+use mathlib.Core.Option.{Option, none, some}
+use Prim.Native.Nat.{ℕ}
+use Rattle.answers.specs.Answer.{Answer, given, refused, first}
+use Rattle.answers.specs.Row.{inTurn}
+use Rattle.letters.specs.Letters.{letters, searched, codeOf}
+use Rattle.text.specs.Text.{ascii, digitsIn, decimal}
+use Rattle.probes.specs.declared.line.Marked.the-variants.{Bare, Two, Run}
+use Rattle.probes.specs.declared.scanning.Outline.{Outline}
+use Rattle.probes.specs.Reading.{Read, readDigits, readNumber, readMarked, readListed, readCodes, after, readFirst, readLine}
+use Rattle.probes.specs.Lines.{linesOf, isLine, lineOf}
+use Rattle.probes.specs.Testing.{known, saidTests, lineTests, textTests, scanning}
+
+-- after the 0 of `07` the 7 is left, so that no line has it
+pub numbers : map readNumber (ascii "0\n" ∷ ascii "7,3\n" ∷ ascii "65535\n" ∷ ascii "65536\n" ∷ ascii "07\n" ∷ ascii "" ∷ ascii "+7\n" ∷ [])
+    ≡ (some (record { what = 0; rest = ascii "\n" })
+    ∷ some (record { what = 7; rest = ascii ",3\n" })
+    ∷ some (record { what = 65535; rest = ascii "\n" })
+    ∷ none
+    ∷ some (record { what = 0; rest = ascii "7\n" })
+    ∷ none
+    ∷ none
+    ∷ [])
+unfolding readNumber readDigits
+numbers = refl
+
+pub a-line : readLine (ascii "GAT\t3,7\n") ≡ some (record { word = 2 ∷ 0 ∷ 3 ∷ []; listed = Two 3 7 })
+unfolding readLine readFirst after readCodes readListed readMarked readNumber readDigits codeOf searched letters
+a-line = refl
+
+-- sound, empty, no newline at the end, two marks, a mark after a mark, uneven, place 0, a carriage return, a needless zero
+pub scans : map scanning
+    (ascii "GA\t1-2\nAT\t2\n"
+    ∷ ascii ""
+    ∷ ascii "GA\t1\nAT\t2"
+    ∷ ascii "GA\t1,2-3\n"
+    ∷ ascii "GA\t1,2\nAT\t3\nTT\t1-2\n"
+    ∷ ascii "GA\t1\nATT\t2\n"
+    ∷ ascii "GA\t1\nAT\t0,5\n"
+    ∷ ascii "GA\t1\r\n"
+    ∷ ascii "GA\t07\n"
+    ∷ [])
+    ≡ (given (record { mark = 2; l = 2; m = 2 })
+    ∷ refused 23 1
+    ∷ refused 23 2
+    ∷ refused 23 1
+    ∷ refused 24 3
+    ∷ refused 25 2
+    ∷ refused 26 2
+    ∷ refused 23 1
+    ∷ refused 23 1
+    ∷ [])
+unfolding first inTurn textTests lineTests saidTests known isLine lineOf linesOf readLine readFirst after readCodes readListed readMarked readNumber readDigits codeOf searched letters
+scans = refl

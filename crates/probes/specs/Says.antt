@@ -1,0 +1,104 @@
+-- What the functions of the line reader answer. A reader of the public contracts needs none of it.
+--   Reads text said read end     == what is said is what is read, and the text goes on at `end`
+--   saysNumber text r, saysListing text r, saysLined text r, saysScanned r    == what each enum says
+--   numberEnd r, listingEnd r, lineEnd r                                      == where the text goes on
+--   toldOf o                     == what is told of a line that is read
+--   kept v cs                    == the value that is kept of a word: of its last 16 letters, where v is that of the letters before cs
+--   Spelled text at w            == w is told of the letters of the text from `at` on
+-- Assumes nothing.
+use mathlib.Core.Path.{_≡_}
+use Prim.Native.Nat.{ℕ, _+_, _*_, _^_, _%_, _≤_}
+use mathlib.Core.Bool.{Bool, true, false}
+use mathlib.Core.List.{List, [], _∷_}
+use mathlib.Core.Option.{Option, none, some}
+use lib.ListN.{length, drop}
+use Rattle.answers.specs.Answer.{Answer, given, refused}
+use Rattle.letters.specs.Letters.{Reading, code, noLetter, codes}
+use Rattle.probes.specs.declared.line.Marked.{Marked}
+use Rattle.probes.specs.declared.number.Numeral.{Numeral}
+use Rattle.probes.specs.declared.number.Numeral.the-variants.{Number, NoNumber}
+use Rattle.probes.specs.declared.line.Listing.{Listing}
+use Rattle.probes.specs.declared.line.Listing.the-variants.{Lists, NoListing}
+use Rattle.probes.specs.declared.line.Word.{Word}
+use Rattle.probes.specs.declared.line.Lined.{Lined}
+use Rattle.probes.specs.declared.line.Lined.the-variants.{Line as IsLine, NoLine}
+use Rattle.probes.specs.declared.scanning.Outline.{Outline}
+use Rattle.probes.specs.declared.scanning.Scanned.{Scanned}
+use Rattle.probes.specs.declared.scanning.Scanned.the-variants.{Sound, Refused}
+use Rattle.probes.specs.Line.{Line}
+use Rattle.probes.specs.Reading.{Read, readCodes}
+
+pub record Reads {A : Type 0} (text : List ℕ) (said read : Option A) (end : ℕ) : Type 0 where
+  pub says : said ≡ read
+  pub within : end ≤ length text
+
+abbrev pub saysNumber : List ℕ → Numeral → Option (Read ℕ)
+saysNumber text (Number n end) = some (record { what = n; rest = drop end text })
+saysNumber text NoNumber = none
+
+abbrev pub numberEnd : Numeral → ℕ
+numberEnd (Number n end) = end
+numberEnd NoNumber = 0
+
+abbrev pub saysListing : List ℕ → Listing → Option (Read Marked)
+saysListing text (Lists y end) = some (record { what = y; rest = drop end text })
+saysListing text NoListing = none
+
+abbrev pub listingEnd : Listing → ℕ
+listingEnd (Lists y end) = end
+listingEnd NoListing = 0
+
+-- two numbers, joined by a mark, where the second is one
+abbrev pub listsBoth : (ℕ → ℕ → Marked) → ℕ → Numeral → Listing
+listsBoth mark p (Number q end) = Lists (mark p q) end
+listsBoth mark p NoNumber = NoListing
+
+-- ---- letters
+
+abbrev pub isLetter : Reading → Bool
+isLetter noLetter = false
+isLetter (code c) = true
+
+abbrev pub codeIn : Reading → ℕ
+codeIn noLetter = 0
+codeIn (code c) = c
+
+abbrev pub kept : ℕ → List ℕ → ℕ
+kept v [] = v
+kept v (c ∷ cs) = kept (codes * (v % 2 ^ 30) + c) cs
+
+pub record Spelled (text : List ℕ) (at : ℕ) (w : Word) : Type 0 where
+  pub end : w .end ≡ at + length (readCodes (drop at text) .what)
+  pub rest : drop (w .end) text ≡ readCodes (drop at text) .rest
+  pub value : w .value ≡ kept 0 (readCodes (drop at text) .what)
+  pub within : w .end ≤ length text
+
+-- ---- a line
+
+pub record Told : Type 0 where
+  pub letters : ℕ
+  pub word : ℕ
+  pub listed : Marked
+  pub rest : List ℕ
+
+abbrev pub saysLined : List ℕ → Lined → Option Told
+saysLined text (IsLine t) = some (record { letters = t .letters; word = t .word; listed = t .listed; rest = drop (t .end) text })
+saysLined text NoLine = none
+
+abbrev pub lineEnd : Lined → ℕ
+lineEnd (IsLine t) = t .end
+lineEnd NoLine = 0
+
+abbrev pub toldOf : Option (Read Line) → Option Told
+toldOf none = none
+toldOf (some r) =
+    some (record { letters = length (r .what .word); word = kept 0 (r .what .word); listed = r .what .listed; rest = r .rest })
+
+-- a byte stands there
+abbrev pub stands : Option (List ℕ) → Bool
+stands none = false
+stands (some xs) = true
+
+abbrev pub saysScanned : Scanned → Answer Outline
+saysScanned (Sound s) = given s
+saysScanned (Refused r) = refused (r .number) (r .place)
