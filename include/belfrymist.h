@@ -1,12 +1,12 @@
-/* Spectrum cards: admitting, reading and writing them, building the sequence, settling narrow cards, counting builds, and probe lists. For
- * firmware, in C99 and in C++.
+/* Spectrum cards: admitting, reading and writing them, building the sequence, settling narrow cards, counting builds, and probe lists.
+ * For firmware, in C99 and in C++.
  *
  * Link libfirmware.a, which `tests/archive FOLDER` writes for x86-64. Each function is proved to meet its contract, which stands over
  * the function of the same name in crates/firmware/src/. This file says the same in words; where the two differ, the contract is right.
  *
  * WHAT COMES BACK. Every function answers for every input, and ends. An answer is a struct of numbers, returned by value. `number`, in
- * each struct that has one, is 0 where nothing is refused; otherwise it is one of the refusals below, `place` says where, and every other field is 0. An answer that
- * is no refusal has place 0. After a refusal no byte of any buffer differs.
+ * each struct that has one, is 0 where nothing is refused; otherwise it is one of the refusals below, `place` says where, and every other
+ * field is 0. An answer that is no refusal has place 0. After a refusal no byte of any buffer differs.
  *
  * WHAT THE CALLER OWES. The proof takes this for granted, and no call can test it:
  *   - a pointer and the length after it are one run of elements that are all there. Lengths count elements, not bytes;
@@ -38,21 +38,20 @@ enum {
     BELFRYMIST_MOST_WIDTH = 8,          /* the places of a span */
     BELFRYMIST_MOST_NARROW = 4,         /* the places of a span that belfrymist_settle takes */
     BELFRYMIST_MOST_CARD = 4608,        /* bytes of the largest card */
-    BELFRYMIST_MOST_LIST = 12600,       /* bytes that are room for the list of every card: 504 lines of at most 25; no longer list is imported */
+    BELFRYMIST_MOST_LIST = 12600,       /* room for the list of every card, 504 lines of at most 25 bytes; no longer list is imported */
     BELFRYMIST_MOST_SEQUENCE = 515,     /* letters of the longest sequence: room for every build */
     BELFRYMIST_NO_SECOND_PLACE = 65535  /* place two of an entry that has one place, on a pair card */
 };
 
-/* Bytes of stack that a call of belfrymist_build takes at most, one that settles, one that counts builds, one of belfrymist_import, and any
- * other call: measured on x86-64 over the samples and the largest cards of both kinds, and not proved. Building takes about 61,000 bytes on a
- * pair card, and on a span card about 28,300 and 320 more for each entry that it places. Settling takes as much for a small card as for a full
- * one. */
+/* Bytes of stack that a call takes at most: measured on x86-64 over the samples and the largest cards of both kinds, and not proved. Building
+ * takes about 61,000 bytes on a pair card, and on a span card about 28,300 and 320 more for each entry that it places. Settling takes as much
+ * for a small card as for a full one. */
 enum {
-    BELFRYMIST_STACK = 196608,
-    BELFRYMIST_STACK_SETTLING = 90112,
-    BELFRYMIST_STACK_COUNTING = 40960,
-    BELFRYMIST_STACK_IMPORTING = 5120,
-    BELFRYMIST_STACK_READING = 512
+    BELFRYMIST_STACK = 196608,          /* belfrymist_build */
+    BELFRYMIST_STACK_SETTLING = 90112,  /* belfrymist_settle and belfrymist_settle_lists */
+    BELFRYMIST_STACK_COUNTING = 40960,  /* belfrymist_count and belfrymist_count_lists */
+    BELFRYMIST_STACK_IMPORTING = 5120,  /* belfrymist_import */
+    BELFRYMIST_STACK_READING = 512      /* any other call, belfrymist_write and belfrymist_export among them */
 };
 
 /* The kinds of card. */

@@ -24,7 +24,7 @@ def own_places(m, word=b"AA", mark=b""):
     return b"".join(b"%s\t%d%s\n" % (word, i, mark and b"%s%d" % (mark, i)) for i in range(1, m + 1))
 
 
-# As many bytes as are read, in sound lines of two letters: all but the last line have five bytes.
+# As many bytes as `list2card` takes, in sound lines of two letters: all but the last line have five bytes.
 LINES = (MOST - 6) // 5
 FULL = b"AC\t1\n" * LINES + b"AC\t10\n"
 

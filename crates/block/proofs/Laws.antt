@@ -14,7 +14,7 @@ use Rattle.answers.specs.Numbers.{Check, Index, Absent}
 use Rattle.answers.specs.Answer.{Answer, given, refused, Sound, sound, Test, test, first}
 use Rattle.answers.specs.Row.{inTurn}
 use Rattle.answers.proofs.Laws.{first-pass, first-fail, first-last, first-passed, first-holds, first-refused, first-given-any, first-refused-any}
-use Rattle.answers.proofs.Numbered.{Numbered, none, also}
+use Rattle.answers.proofs.Only.{Only, Numbered, none, also}
 use Rattle.block.specs.declared.Sums.{Sums}
 use Rattle.block.specs.Bytes.{AreBytes}
 use Rattle.block.specs.Check.{sumsOf, checks, checkAt}
@@ -49,10 +49,10 @@ module _ (b : List ℕ) (k : ℕ) where
       first-pass (checks b) Check k (test (eqb (indexOf b) k) Index k ∷ []) sound h
       ∙ first-last (eqb (indexOf b) k) Index k sound (eq-eqb (indexOf b) k i)
 
-  -- each refuses by a number above 0
-  pub block-numbered : Numbered (blockTests b k)
+  -- by which numbers they refuse
+  pub block-only : {P : ℕ → Type 0} → P Check → P Index → Only P (blockTests b k)
   unfolding blockTests
-  block-numbered = also {n = Check} (omega arith) (also {n = Index} (omega arith) none)
+  block-only check index = also check (also index none)
 
 -- the block of a card put together from parts
 pub block-in-place : (p b q : List ℕ) (k : ℕ) → length p ≡ blockBytes * k → length b ≡ blockBytes → blockAt (p ++ (b ++ q)) k ≡ b
@@ -109,7 +109,7 @@ module _ (card : List ℕ) (k : ℕ) where
   -- each test refuses by a number above 0
   pub fetch-numbered : Numbered (fetchTests card k)
   unfolding fetchTests
-  fetch-numbered = also {n = Absent} (omega arith) (block-numbered (blockAt card k) k)
+  fetch-numbered = also {n = Absent} (omega arith) (block-only (blockAt card k) k (omega arith) (omega arith))
 
   -- a block that holds is all there
   pub holds-there : {A : Type 0} (a b : A) → first (fetchTests card k) a ≡ given b → blockBytes * k + blockBytes ≤ length card

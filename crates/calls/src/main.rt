@@ -1,5 +1,5 @@
-// Runs stored records, each of which counts the builds of a card or of lists, settles a card or lists, or imports or exports a list, and prints a
-// line for each. The records stand on standard input, one after the other: a tag byte, and then the record's fields, little-endian.
+// Runs stored records, each of which counts the builds of a card or of lists, settles a card or lists, imports a list or exports a card, and prints
+// a line for each. The records stand on standard input, one after the other: a tag byte, and then the record's fields, little-endian.
 //     C n bytes    counts the builds of the card of the n bytes after it
 //     L kind l a b c words ones twos
 //                  counts the builds of lists of a words (four bytes each), b places one and c places two (two bytes each)

@@ -1,16 +1,26 @@
 -- The first bytes of a card, one more than the longest card has, are enough for `card2list`: what it writes for them is what it writes for
--- all of it, since the reader refuses both alike (`FrontLaws` of `card`). Assumes nothing.
-use mathlib.Core.Path.{_≡_, refl, sym, _∙_}
+-- all of it, since the reader refuses both alike (`FrontLaws` of `card`). And no list that is too long for `list2card` has a card. Assumes nothing.
+use mathlib.Core.Path.{_≡_, refl, sym, ap, _∙_}
+use mathlib.Core.Logic.{⊎-elim}
 use mathlib.Core.List.{List}
-use Prim.Native.Nat.{ℕ}
-use lib.ListN.{take}
-use Rattle.answers.specs.Answer.{refused}
+use Prim.Native.Nat.{ℕ, _≤_, _<_}
+use native.Mathlib.Omega.{arith}
+use lib.ListN.{length, take}
+use lib.Seq.{take-all, length-take-le}
+use borrow.Author.Tests.{lt-leb}
+use Rattle.answers.specs.Answer.{given, refused}
 use Rattle.answers.proofs.Laws.{first-refused}
 use Rattle.card.specs.Reading.{readingOrder}
 use Rattle.card.proofs.FrontLaws.{Alike, needed}
+use Rattle.layout.specs.Bounds.{mostEntries}
+use Rattle.writer.specs.declared.Written.the-variants.{Card}
+use Rattle.writer.specs.Writing.{outputAfter}
+use Rattle.probes.proofs.NumberLaws.{lt-or-le}
+use Rattle.importing.specs.Importing.{cardIn, importing, Imports}
+use Rattle.importing.proofs.Imported.{imported-short}
 use Rattle.exporting.specs.Exporting.{exporting, listRoom}
-use Rattle.input.specs.Input.{programBytes}
-use Rattle.converting.specs.Converting.{toList}
+use Rattle.input.specs.Input.{programBytes, mostList, listBytes}
+use Rattle.converting.specs.Converting.{toCard, toList}
 
 alike-written : (limit : ℕ) (card other : List ℕ) → Alike limit card other → toList limit card ≡ toList limit other
 unfolding toList exporting
@@ -25,3 +35,23 @@ pub front-enough : (limit : ℕ) (card : List ℕ) → toList limit (take (progr
 front-enough limit card =
     needed limit {Is = λ bytes. toList limit bytes ≡ toList limit card} (λ one other alike e. sym (alike-written limit one other alike) ∙ e)
     card refl
+
+-- The same of a list for `list2card`: of a longer one no more is written than that it is too long.
+pub list-enough : (limit : ℕ) (list : List ℕ) → toCard limit (take listBytes list) ≡ toCard limit list
+unfolding toCard
+list-enough limit list = ⊎-elim longer whole (lt-or-le mostList (length list))
+  where
+    longer : mostList < length list → toCard limit (take listBytes list) ≡ toCard limit list
+    longer h =
+        let front : mostList < length (take listBytes list) = omega (arith, length-take-le listBytes list (omega arith)) in
+        rw (lt-leb (length list) mostList h, lt-leb (length (take listBytes list)) mostList front) refl
+
+    whole : length list ≤ mostList → toCard limit (take listBytes list) ≡ toCard limit list
+    whole h = ap (toCard limit) (take-all listBytes list (omega arith))
+
+-- a list that is longer than `list2card` takes is refused anyway, whatever room there is: no card is kept back
+pub longer-refused : (list room : List ℕ) {n : ℕ} → mostList < length list → importing mostEntries list (length room) ≡ given n → ⊥
+longer-refused list room {n} h says =
+    let did : Imports mostEntries list room (Card n) (outputAfter (cardIn list) room (importing mostEntries list (length room))) =
+    record { answer = sym says; bytes = refl } in
+    omega (arith, imported-short did refl)

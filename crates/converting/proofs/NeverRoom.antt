@@ -14,20 +14,19 @@ use Rattle.answers.specs.Numbers.{Room}
 use Rattle.answers.specs.Answer.{Answer, given, refused, Sound, sound, Test, first}
 use Rattle.answers.proofs.Laws.{first-holds, first-refused, first-last, given-not-refused}
 use Rattle.answers.proofs.Tests.{both}
-use Rattle.entries.specs.Slot.{slotFrom}
-use Rattle.entries.specs.Fault.{entryTests}
 use Rattle.layout.specs.Bounds.{leastEntries, mostEntries}
 use Rattle.layout.specs.Layout.{sizeOf}
 use Rattle.layout.proofs.Laws.{within-both}
 use Rattle.card.specs.Reading.{readingOrder}
 use Rattle.card.proofs.FetchingLaws.{admission-given}
-use Rattle.card.proofs.NumberLaws.{each, each-turns, each-refused, reader-below}
-use Rattle.lists.specs.Lists.{formatFor, listsTests}
-use Rattle.lists.proofs.Laws.{lists-accepted}
+use Rattle.answers.proofs.Only.{Only, only-refused}
+use Rattle.card.proofs.RefusalNumbers.{reader-below}
+use Rattle.probes.proofs.RefusalNumbers.{text-only}
+use Rattle.lists.specs.Lists.{listsTests}
+use Rattle.lists.proofs.Laws.{lists-accepted, lists-only}
 use Rattle.text.specs.Text.{ascii, digitsIn, decimal, refusalLine}
 use Rattle.text.proofs.DecimalLaws.{decimal-one, decimal-more}
-use Rattle.probes.specs.Lines.{linesOf}
-use Rattle.probes.specs.Testing.{saidTests, lineTests, testsAt, textTests}
+use Rattle.probes.specs.Testing.{textTests}
 use Rattle.importing.specs.Importing.{kindIn, lettersIn, wordsIn, onesIn, twosIn, cardIn, importing}
 use Rattle.exporting.specs.Exporting.{listOf, exporting, listRoom}
 use Rattle.exporting.proofs.ExportRoom.{list-short}
@@ -40,14 +39,14 @@ use Rattle.converting.specs.Converting.{byAnswer, tooLong, toCard, toLis
 abbrev isOther : ℕ → Bool
 isOther n = ltb n 100 && not (eqb n Room)
 
-text-other : (list : List ℕ) → each isOther (textTests list) ≡ true
-unfolding textTests lineTests saidTests
-text-other list = each-turns isOther (testsAt list) (λ e. refl) (length (linesOf list)) 0
+abbrev Other : ℕ → Type 0
+Other n = isOther n ≡ true
 
-lists-other : (limit kind l : ℕ) (words ones twos : List ℕ) → each isOther (listsTests limit kind l words ones twos) ≡ true
-unfolding listsTests entryTests
-lists-other limit kind l words ones twos =
-    each-turns isOther (λ e. entryTests (formatFor kind l words) e (slotFrom words ones twos e)) (λ e. refl) (length words) 0
+text-other : (list : List ℕ) → Only Other (textTests list)
+text-other list = text-only {P = Other} refl refl refl refl list
+
+lists-other : (limit kind l : ℕ) (words ones twos : List ℕ) → Only Other (listsTests limit kind l words ones twos)
+lists-other limit kind l words ones twos = lists-only limit kind l words ones twos {P = Other} refl refl refl refl refl refl
 
 module _ (limit : ℕ) (list : List ℕ) {n p : ℕ} (e : importing limit list (sizeOf limit) ≡ refused n p) where
   abbrev tests : List Test
@@ -71,13 +70,13 @@ module _ (limit : ℕ) (list : List ℕ) {n p : ℕ} (e : importing limit list (
           let says : importing limit list (sizeOf limit) ≡ refused k q =
           first-holds _ _ (textTests list) holds ∙ first-refused _ _ tests stops in
           let same : k ≡ n = cc in
-          rw same at (each-refused isOther tests sound (lists-other limit _ _ _ _ _) stops)
+          rw same at (only-refused (lists-other limit _ _ _ _ _) sound stops)
 
       texts : (a : Answer Sound) → first (textTests list) sound ≡ a → isOther n ≡ true
       texts (given sound) holds = by-lists holds (first tests sound) refl
       texts (refused k q) stops =
           let same : k ≡ n = cc (first-refused _ _ (textTests list) stops) in
-          rw same at (each-refused isOther (textTests list) sound (text-other list) stops)
+          rw same at (only-refused (text-other list) sound stops)
 
 module _ (card : List ℕ) {n p : ℕ} (e : exporting mostEntries card (listRoom mostEntries) ≡ refused n p) where
   export-other : isOther n ≡ true

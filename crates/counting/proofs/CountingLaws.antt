@@ -13,7 +13,7 @@ use Rattle.answers.specs.declared.Refusal.{Refusal}
 use Rattle.answers.specs.Numbers.{Kind}
 use Rattle.answers.specs.Answer.{Answer, given, refused, Sound, sound, Test, test, first}
 use Rattle.answers.proofs.Laws.{first-holds, first-refused, first-both, first-passed, first-last, first-fail, given-not-refused, refusal-same}
-use Rattle.answers.proofs.Numbered.{Numbered, none, also, numbered-append}
+use Rattle.answers.proofs.Only.{Numbered, none, also, only-append}
 use Rattle.entries.specs.declared.Slot.{Slot}
 use Rattle.entries.specs.Fault.{pair, span}
 use Rattle.sequence.specs.Many.{Power, two-to, no-build, howMany}
@@ -38,7 +38,7 @@ module _ (ts : List Test) (kind : ℕ) where
 
   pub tests-numbered : Numbered ts → Numbered (countTests kind ts)
   unfolding countTests
-  tests-numbered h = numbered-append h (also {n = Kind} (omega arith) none)
+  tests-numbered h = only-append h (also {n = Kind} (omega arith) none)
 
   module _ (e : first ts sound ≡ given sound) where
     pub hold-tests : kind ≡ pair → first (countTests kind ts) sound ≡ given sound

@@ -11,7 +11,7 @@ use borrow.Author.Tests.{lt-ltb, le-ltb, le-leb, lt-leb, ltb-true, eq-eqb, ne-eq
 use Rattle.answers.specs.Numbers.{Word, Places}
 use Rattle.answers.specs.Answer.{given, refused, sound, test, first}
 use Rattle.answers.proofs.Laws.{first-pass, first-fail, first-last, first-passed}
-use Rattle.answers.proofs.Numbered.{Numbered, none, also}
+use Rattle.answers.proofs.Only.{Only, none, also}
 use Rattle.entries.specs.declared.Format.{Format}
 use Rattle.entries.specs.declared.Slot.{Slot}
 use Rattle.entries.specs.declared.Places.the-variants.{One, Two, Span}
@@ -85,10 +85,10 @@ module _ (f : Format) (e : ℕ) (s : Slot) where
   unfolding entryTests
   word-over h = first-fail _ _ _ _ _ (le-ltb (s .word) (4 ^ f .l) h)
 
-  -- each test refuses by a number above 0
-  pub entry-numbered : Numbered (entryTests f e s)
+  -- by which numbers they refuse
+  pub entry-only : {P : ℕ → Type 0} → P Word → P Places → Only P (entryTests f e s)
   unfolding entryTests
-  entry-numbered = also {n = Word} (omega arith) (also {n = Places} (omega arith) none)
+  entry-only word places = also word (also places none)
 
   -- a word that fits leaves the test of the places
   word-fits : s .word < 4 ^ f .l

@@ -13,7 +13,8 @@ use Rattle.probes.specs.Reading.{readDigits, readNumber, readMarked, readListed
 use Rattle.probes.specs.Lines.{linesOf, isLine, lineOf, linesIn}
 use Rattle.probes.specs.Testing.{known, saidTests, lineTests, textTests}
 use Rattle.importing.specs.Importing.{kindIn, lettersIn, wordsIn, onesIn, twosIn, importing}
-use Rattle.exporting.specs.Exporting.{listedFor, lineFor, textOf, spelledOut}
+use Rattle.exporting.specs.Exporting.{listedFor, lineFor, textOf}
+use Rattle.exporting.specs.Back.{spelledOut}
 
 -- ---- lists that are imported: the kind, l, the words and the two places of each entry, stated by hand
 

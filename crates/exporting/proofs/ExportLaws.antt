@@ -11,6 +11,7 @@ use Rattle.answers.specs.Numbers.{Room}
 use Rattle.answers.specs.Answer.{given, refused, sound}
 use Rattle.answers.specs.Row.{row}
 use Rattle.answers.proofs.Laws.{first-holds, first-refused, first-refused-any, first-fail, first-last}
+use Rattle.block.specs.Bytes.{AreBytes}
 use Rattle.block.specs.Block.{blockBytes}
 use Rattle.entries.specs.declared.Format.{Format}
 use Rattle.entries.specs.Fault.{leastLength, mostLength}
@@ -70,25 +71,26 @@ module _ (limit : ℕ) (card : List ℕ) {f : Format} (admitted : admission limi
       first-holds _ _ (readingOrder limit card) (admission-admits limit card admitted .order)
       ∙ first-fail _ _ _ _ _ (lt-leb (length (listOf card)) room h)
 
-module _ (card : List ℕ) {f : Format} (admitted : admission mostEntries card ≡ given f) {before : List ℕ} {n : ℕ} (e : n ≡ length (listOf card)) where
+module _ (card : List ℕ) (of-bytes : AreBytes card) {f : Format} (admitted : admission mostEntries card ≡ given f) {before : List ℕ} {n : ℕ}
+    (e : n ≡ length (listOf card)) where
   pub export-no-room : length before < n → Exports mostEntries card before (Refused (record { number = Room; place = 0 })) before
   export-no-room h =
       let says = list-no-room mostEntries card admitted (length before) (omega arith) in
-      record { answer = sym says; bytes = rw says }
+      record { of-bytes = of-bytes; answer = sym says; bytes = rw says }
 
   pub export-text : {part : List ℕ} → n ≤ length before → part ≡ listOf card → Exports mostEntries card before (Text n) (part ++ drop n before)
   export-text h is =
       let says : exporting mostEntries card (length before) ≡ given n =
       list-given mostEntries card admitted (length before) (omega arith) ∙ ap given (sym e) in
-      record { answer = sym says; bytes = rw says (ap (λ (t : List ℕ). t ++ drop n before) is) }
+      record { of-bytes = of-bytes; answer = sym says; bytes = rw says (ap (λ (t : List ℕ). t ++ drop n before) is) }
 
 -- the reader's refusals
 pub card-refused : (limit : ℕ) (card : List ℕ) (room : ℕ) {n p : ℕ} → admission limit card ≡ refused n p → exporting limit card room ≡ refused n p
 unfolding exporting admission
 card-refused limit card room e = first-refused _ _ (readingOrder limit card) (first-refused-any (readingOrder limit card) (toldBy card) sound e)
 
-pub export-refused : {card before : List ℕ} {n : Refusal} → admission mostEntries card ≡ refused (n .number) (n .place)
+pub export-refused : {card before : List ℕ} {n : Refusal} → AreBytes card → admission mostEntries card ≡ refused (n .number) (n .place)
     → Exports mostEntries card before (Refused n) before
-export-refused {card} {before} e =
+export-refused {card} {before} of-bytes e =
     let says = card-refused mostEntries card (length before) e in
-    record { answer = sym says; bytes = rw says }
+    record { of-bytes = of-bytes; answer = sym says; bytes = rw says }

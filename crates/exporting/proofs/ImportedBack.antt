@@ -1,7 +1,7 @@
 -- An imported list, exported again, and imported once more. Assumes nothing.
 use mathlib.Core.Path.{_≡_, sym, ap, _∙_}
 use mathlib.Core.Logic.{_⊎_}
-use mathlib.Core.List.{List, _++_, map}
+use mathlib.Core.List.{List, _++_}
 use Prim.Native.Nat.{ℕ, _≤_, _<_}
 use lib.ListN.{length, take, drop}
 use Rattle.answers.specs.Answer.{given}
@@ -19,13 +19,14 @@ use Rattle.writer.specs.Writing.{saysWritten}
 use Rattle.writer.proofs.WritingLaws.{wrote-size}
 use Rattle.writer.proofs.RoundTrip.{read-back}
 use Rattle.probes.specs.Line.{mostNumber}
-use Rattle.probes.specs.Lines.{linesOf, linesIn, lineIn}
+use Rattle.probes.specs.Lines.{linesOf, lineIn}
 use Rattle.probes.specs.Testing.{lineMark}
 use Rattle.importing.specs.Importing.{kindIn, lettersIn, wordsIn, onesIn, twosIn, cardIn, importing, Imports}
 use Rattle.importing.proofs.SoundCard.{told-in}
 use Rattle.importing.proofs.Imported.{imported-sound, imported-writes, imported-card}
 use Rattle.exporting.specs.declared.Exported.{Exported}
-use Rattle.exporting.specs.Exporting.{textOf, listOf, spelledOut, backOf, saysExported, Exports}
+use Rattle.exporting.specs.Exporting.{listOf, saysExported, Exports}
+use Rattle.exporting.specs.Back.{backOf}
 use Rattle.exporting.proofs.RoundTrip.{listed-card, listed-imports, exported-list}
 use Rattle.exporting.proofs.SpelledOut.{list-again, own-list}
 use Rattle.exporting.proofs.ExportRoom.{export-given}

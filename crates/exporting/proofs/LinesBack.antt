@@ -2,19 +2,18 @@
 use mathlib.Core.Path.{_≡_, refl, sym, ap, _∙_}
 use mathlib.Core.Logic.{_⊎_, inl, inr, ⊎-elim}
 use mathlib.Core.Bool.{Bool, true, false, cond, _||_}
-use mathlib.Core.List.{List, [], _∷_, _++_, map, append-assoc}
-use mathlib.Core.Option.{some}
+use mathlib.Core.List.{List, [], _∷_, map}
 use Prim.Native.Nat.{ℕ, suc, _+_, _≤_, _<_}
 use native.Mathlib.Omega.{arith}
-use lib.ListN.{length, getD, take, drop, length-append, length-map}
-use lib.Seq.{take-append-add, drop-append-add, length-take-le, getD-take}
+use lib.ListN.{length, getD, take, length-append, length-map}
+use lib.Seq.{length-take-le, getD-take}
 use lib.Dec.{eqb}
 use borrow.Author.Tests.{eq-eqb, lt-ltb}
 use Rattle.answers.specs.Answer.{given, sound, first}
 use Rattle.answers.proofs.Laws.{first-pass, turns-hold, first-given-any}
 use Rattle.probes.specs.Line.{Line, lineText, fine}
 use Rattle.probes.specs.Reading.{newline}
-use Rattle.probes.specs.Lines.{linesOf, isLine, lineOf, linesIn}
+use Rattle.probes.specs.Lines.{linesOf, lineOf, linesIn}
 use Rattle.probes.specs.Testing.{hasZero, lineMark, lineLetters, known, outlineOf, agree, testsAt, textTests, scanning}
 use Rattle.probes.proofs.LineLaws.{line-ends}
 use Rattle.probes.proofs.LinesLaws.{lines-none}

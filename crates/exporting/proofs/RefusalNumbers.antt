@@ -5,10 +5,10 @@ use Prim.Native.Nat.{ℕ, _<_}
 use native.Mathlib.Omega.{arith}
 use Rattle.answers.specs.Numbers.{Room}
 use Rattle.answers.specs.Answer.{refused}
-use Rattle.answers.proofs.Numbered.{none, also, numbered-append, numbered-refused}
+use Rattle.answers.proofs.Only.{none, also, only-append, only-refused}
 use Rattle.card.proofs.RefusalNumbers.{order-numbered}
 use Rattle.exporting.specs.Exporting.{exporting}
 
 pub exporting-number : (limit : ℕ) (card : List ℕ) (room : ℕ) {n p : ℕ} → exporting limit card room ≡ refused n p → 0 < n
 unfolding exporting
-exporting-number limit card room e = numbered-refused (numbered-append (order-numbered limit card) (also {n = Room} (omega arith) none)) _ e
+exporting-number limit card room e = only-refused (only-append (order-numbered limit card) (also {n = Room} (omega arith) none)) _ e

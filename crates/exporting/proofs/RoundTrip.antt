@@ -81,12 +81,12 @@ module _ (limit : ℕ) (few : limit ≤ mostNumber) (card : List ℕ) {before af
       ap (take n) bytes ∙ take-at (listOf card) (drop n before) n size
 
   -- "must import to the same card"
-  pub exported-imports : {room end : List ℕ} {q : Written} → AreBytes card → Imports limit (take n after) room q end → length card ≤ length room
+  pub exported-imports : {room end : List ℕ} {q : Written} → Imports limit (take n after) room q end → length card ≤ length room
       → (saysWritten q ≡ given (length card)) × (end ≡ card ++ drop (length card) room)
-  exported-imports {room} {end} bytes imports h =
+  exported-imports {room} {end} imports h =
       let own = rw exported-list at imports in
       let answer : importing limit (listOf card) (length room) ≡ given (length card) =
       listed-imports limit few card exported-admitted (length room) h in
-      let same : cardIn (listOf card) ≡ card = same-card limit few card exported-admitted bytes in
+      let same : cardIn (listOf card) ≡ card = same-card limit few card exported-admitted (did .of-bytes) in
       let text : end ≡ cardIn (listOf card) ++ drop (length card) room = rw answer at (own .bytes) in
       (own .answer ∙ answer, text ∙ ap (λ (xs : List ℕ). xs ++ drop (length card) room) same)

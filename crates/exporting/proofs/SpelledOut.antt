@@ -21,13 +21,14 @@ use Rattle.probes.specs.declared.scanning.Outline.{Outline}
 use Rattle.probes.specs.Line.{Line, lineText, mostNumber, isSmall}
 use Rattle.probes.specs.Lines.{linesOf, lineOf, linesIn, lineIn}
 use Rattle.probes.specs.Testing.{markOf, hasZero, lineMark, scanning}
-use Rattle.probes.specs.Listing.{valueOf, oneOf, twoOf, slotFor}
+use Rattle.probes.specs.Listing.{valueOf, oneOf, twoOf}
 use Rattle.probes.proofs.NoShift.{some-both}
 use Rattle.probes.proofs.TextLaws.{whole, lines-whole, lines-many}
 use Rattle.importing.specs.Importing.{kindIn, lettersIn, wordsIn, cardIn}
 use Rattle.importing.proofs.WordBack.{letters-value}
-use Rattle.importing.proofs.SoundCard.{OwnLine, words-many, told-in, slot-in, own-line, own-text}
-use Rattle.exporting.specs.Exporting.{listedFor, lineFor, textOf, linesFor, listOf, hyphened, spelledOut}
+use Rattle.importing.proofs.SoundCard.{slotFor, OwnLine, words-many, told-in, slot-in, own-line, own-text}
+use Rattle.exporting.specs.Exporting.{listedFor, lineFor, textOf, linesFor, listOf}
+use Rattle.exporting.specs.Back.{hyphened, spelledOut}
 use Rattle.exporting.proofs.PutLaws.{for-span, for-one, for-two}
 
 -- ---- a line that became an entry, listed

@@ -6,20 +6,20 @@
 --   linesFor f slots                == the lines of a card of this format and these entries
 --   listOf card                     == the probe list of a card
 --   exporting limit card room       == what exporting answers, where the output has `room` bytes: the reader's refusals, then 12
---   Exports limit card before r after    == the answer r, and every byte of the output afterwards
+--   Exports limit card before r after    == the answer r, and every byte of the output afterwards; and that the card is of bytes, which the
+--                                           round trip needs
 --   listRoom limit                  == room for the list of every card
---   backOf text                     == what comes back of a list that is imported, and then exported
---   spelledOut kind x               == the line x of a list of this kind, as it comes back: on a span list a bare p is p-p
 -- Assumes nothing.
 use mathlib.Core.Path.{_≡_}
 use Prim.Native.Nat.{ℕ, _+_, _*_}
 use mathlib.Core.Bool.{cond}
-use mathlib.Core.List.{List, [], _∷_, _++_, map}
+use mathlib.Core.List.{List, [], _∷_, _++_}
 use lib.ListN.{length}
 use lib.Dec.{leb, eqb}
 use Rattle.answers.specs.Numbers.{Room}
 use Rattle.answers.specs.Answer.{Answer, given, refused, test, first}
 use Rattle.answers.specs.Row.{row}
+use Rattle.block.specs.Bytes.{AreBytes}
 use Rattle.entries.specs.declared.Format.{Format}
 use Rattle.entries.specs.declared.Slot.{Slot}
 use Rattle.entries.specs.Fault.{span, noPlace}
@@ -29,9 +29,7 @@ use Rattle.card.specs.Reading.{readingOrder}
 use Rattle.writer.specs.Writing.{outputAfter}
 use Rattle.probes.specs.declared.line.Marked.{Marked}
 use Rattle.probes.specs.declared.line.Marked.the-variants.{Bare, Two, Run}
-use Rattle.probes.specs.Lines.{linesIn}
 use Rattle.probes.specs.Line.{Line, lineText, mostLine}
-use Rattle.importing.specs.Importing.{kindIn}
 use Rattle.exporting.specs.declared.Exported.{Exported}
 use Rattle.exporting.specs.declared.Exported.the-variants.{Text, Refused}
 
@@ -65,18 +63,6 @@ saysExported (Text n) = given n
 saysExported (Refused r) = refused (r .number) (r .place)
 
 pub record Exports (limit : ℕ) (card before : List ℕ) (r : Exported) (after : List ℕ) : Type 0 where
+  pub of-bytes : AreBytes card
   pub answer : saysExported r ≡ exporting limit card (length before)
   pub bytes : after ≡ outputAfter (listOf card) before (exporting limit card (length before))
-
--- "On a span list a bare `7` means 7-7."
-abbrev pub hyphened : ℕ → Marked → Marked
-hyphened kind (Bare p) = cond (eqb kind span) (Run p p) (Bare p)
-hyphened kind (Two p q) = Two p q
-hyphened kind (Run p q) = Run p q
-
-abbrev pub spelledOut : ℕ → Line → Line
-spelledOut kind x = record { word = x .word; listed = hyphened kind (x .listed) }
-
--- what comes back of a list
-abbrev pub backOf : List ℕ → List ℕ
-backOf text = textOf (map (spelledOut (kindIn text)) (linesIn text))

@@ -1,2 +1,3 @@
--- `Exporting` is what a card is listed as, and what exporting answers and writes.
+-- `Exporting` is what a card is listed as, and what exporting answers and writes. `Back` is what comes back of an imported list.
 pub mod Exporting
+pub mod Back

@@ -16,7 +16,7 @@ use entries::Format;
 use entries::Slot;
 use probes::line::Marked;
 
-// The most bytes of a line that a card can have: 12 letters, a tab, two numbers of five digits with a mark between them, and a newline.
+// No line of a card has more bytes: 12 letters, a tab, two numbers of at most five digits with a mark between them, and a newline.
 const MOST_LINE: usize = entries::MOST_LENGTH + 13;
 // Room for the list of every card.
 pub const LIST: usize = MOST_LINE * layout::MOST;

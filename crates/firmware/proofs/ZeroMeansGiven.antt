@@ -7,7 +7,7 @@ use lib.ListN.{length}
 use Rattle.answers.specs.Numbers.{Room}
 use Rattle.answers.specs.Answer.{Answer, given, refused, sound, Test, first}
 use Rattle.answers.proofs.Laws.{given-not-refused}
-use Rattle.answers.proofs.Numbered.{Numbered, none, also, numbered-append, numbered-refused}
+use Rattle.answers.proofs.Only.{Numbered, none, also, only-append, only-refused}
 use Rattle.block.specs.Block.{fetchTests}
 use Rattle.block.proofs.Laws.{fetch-numbered}
 use Rattle.entries.specs.declared.Slot.{Slot}
@@ -51,7 +51,7 @@ module _ (limit : ℕ) (card : List ℕ) {n p : ℕ} where
 
 module _ (card : List ℕ) (k : ℕ) {n p : ℕ} where
   pub companion-tells : first (fetchTests card k) sound ≡ refused n p → 0 < heldAnswer (first (fetchTests card k) sound) .number
-  companion-tells e = rw e (numbered-refused (fetch-numbered card k) sound e)
+  companion-tells e = rw e (only-refused (fetch-numbered card k) sound e)
 
 pub write-tells : (limit kind l : ℕ) (words ones twos : List ℕ) (room : ℕ) {n p : ℕ}
     → writing limit kind l words ones twos room ≡ refused n p
@@ -74,7 +74,7 @@ write-zero e = rw e refl
 
 build-numbered : (limit : ℕ) (card : List ℕ) (room : ℕ) → Numbered (buildTests limit card room)
 unfolding buildTests
-build-numbered limit card room = numbered-append (order-numbered limit card) (also {n = Room} (omega arith) none)
+build-numbered limit card room = only-append (order-numbered limit card) (also {n = Room} (omega arith) none)
 
 zero-given : (o : Outcome) → buildAnswer (given o) .number ≡ 0
 zero-given (settled (sole s) n) = refl
@@ -88,7 +88,7 @@ module _ {limit budget : ℕ} {card before after : List ℕ} {result : BuildAnsw
     where
       go : {a : Answer Outcome} → Says limit card budget (length before) a → 0 < buildAnswer a .number
       go (tells hold _) = absurd (given-not-refused (sym hold ∙ e))
-      go (refuses fails) = numbered-refused (build-numbered limit card (length before)) sound fails
+      go (refuses fails) = only-refused (build-numbered limit card (length before)) sound fails
 
   pub build-zero : first (buildTests limit card (length before)) sound ≡ given sound → result .number ≡ 0
   build-zero e = rw (w .answer) (go (w .says))
@@ -106,7 +106,7 @@ module _ {ts : List Test} {kind l : ℕ} {es : List Slot} {before after : List �
     where
       go : {a : Answer Outcome} → Settled ts kind l es a → 0 < buildAnswer a .number
       go (settling.tells hold _) = absurd (given-not-refused (sym hold ∙ e))
-      go (settling.refuses fails) = numbered-refused (narrow.tests-numbered kind es ts numbered) sound fails
+      go (settling.refuses fails) = only-refused (narrow.tests-numbered kind es ts numbered) sound fails
 
   settle-zero : first (settleTests kind es ts) sound ≡ given sound → result .number ≡ 0
   settle-zero e = rw (c .answer) (go (c .says))
@@ -148,7 +148,7 @@ module _ {ts : List Test} {kind l : ℕ} {es : List Slot} {result : CountAnswer}
     where
       go : {a : Answer Power} → Counted ts kind l es a → 0 < countAnswer a .number
       go (counting.tells hold _) = absurd (given-not-refused (sym hold ∙ e))
-      go (counting.refuses fails) = numbered-refused (tests-numbered ts kind numbered) sound fails
+      go (counting.refuses fails) = only-refused (tests-numbered ts kind numbered) sound fails
 
   count-zero : first (countTests kind ts) sound ≡ given sound → result .number ≡ 0
   count-zero e = rw (c .answer) (go (c .says))

@@ -6,7 +6,7 @@
 --   stepAnswer r       == a step of the reading head: the entry and the moved head, or the end
 --   heldAnswer r       == the companion of a fetch
 --   partAnswer k r     == fetching block k: where in the card it starts, and its bytes
---   writeAnswer r      == writing: the card's length
+--   writeAnswer r      == writing and importing: the card's length; exporting: the list's
 -- Build and the number of builds have their own files, `Building` and `Counting`. Assumes nothing.
 use Prim.Native.Nat.{ℕ, _*_}
 use Rattle.answers.specs.Answer.{Answer, given, refused, Sound, sound}

@@ -23,7 +23,6 @@ use Rattle.writer.proofs.RoundTrip.{made-is}
 use Rattle.probes.specs.Line.{mostLine}
 use Rattle.probes.specs.Lines.{linesOf, linesIn, lineIn}
 use Rattle.probes.specs.Testing.{lineLetters, outlineOf, textTests, scanning}
-use Rattle.probes.specs.Listing.{slotFor}
 use Rattle.probes.proofs.LineLaws.{fine-is}
 use Rattle.probes.proofs.LengthLaws.{line-few}
 use Rattle.probes.proofs.TextLaws.{lines-whole, whole-most}
@@ -32,7 +31,7 @@ use Rattle.importing.specs.Importing.{kindIn, lettersIn, wordsIn, onesIn
 use Rattle.importing.proofs.ImportingLaws.{importing-writes}
 use Rattle.importing.proofs.WordBack.{letters-value}
 use Rattle.probes.specs.Faults.{HasMark}
-use Rattle.importing.proofs.SoundCard.{words-many, told-in, entry-in, own-line, own-text}
+use Rattle.importing.proofs.SoundCard.{slotFor, words-many, told-in, entry-in, own-line, own-text}
 
 module _ {limit : ℕ} {text before after : List ℕ} {r : Written} {n : ℕ}
     (did : Imports limit text before r after) (said : saysWritten r ≡ given n) where

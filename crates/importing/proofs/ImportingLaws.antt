@@ -1,7 +1,7 @@
 -- The laws of importing that this crate's proofs cite. Assumes nothing.
 use mathlib.Core.Path.{_≡_, refl, sym, ap, _∙_}
 use mathlib.Core.Bool.{Bool, true, false, cond}
-use mathlib.Core.List.{List, [], _∷_, _++_, map}
+use mathlib.Core.List.{List, map}
 use Prim.Native.Nat.{ℕ, _≤_}
 use native.Mathlib.Omega.{arith}
 use lib.ListN.{length, take, length-map}
@@ -73,7 +73,7 @@ few-letters {l} e = within-both leastLength mostLength l e .1
 pub few-entries : {m : ℕ} → isWithin leastEntries mostEntries m ≡ true → m ≤ mostEntries
 few-entries {m} e = within-both leastEntries mostEntries m e .1
 
-is-kind : (mark : ℕ) → isKind (kindOf mark) ≡ true
+pub is-kind : (mark : ℕ) → isKind (kindOf mark) ≡ true
 is-kind mark = go (eqb mark span)
   where
     go : (t : Bool) → isKind (cond t span pair) ≡ true
@@ -84,8 +84,8 @@ module _ (limit : ℕ) (text : List ℕ) {s : Outline} (holds : scanning text �
   words-long : length (wordsIn text) ≡ s .m
   words-long = words-many text ∙ sym (sound-count text holds)
 
-  same : sameLength (wordsIn text) (onesIn text) (twosIn text) ≡ true
-  same =
+  pub lists-same : sameLength (wordsIn text) (onesIn text) (twosIn text) ≡ true
+  lists-same =
       let words = length-map (linesIn text) (λ x. valueOf (x .word)) in
       let ones = length-map (linesIn text) (λ x. oneOf (x .listed)) in
       let twos = length-map (linesIn text) (λ x. twoOf (kindIn text) (x .listed)) in
@@ -99,7 +99,7 @@ module _ (limit : ℕ) (text : List ℕ) {s : Outline} (holds : scanning text �
   pub sound-many : {before : List ℕ} → isWithin leastLength mostLength (s .l) ≡ true → isWithin leastEntries limit (s .m) ≡ false
       → Writes limit (kindOf (s .mark)) (s .l) (wordsIn text) (onesIn text) (twosIn text) before (Refused (record { number = Count; place = 0 })) before
   sound-many letters e =
-      lists-refused (count-wrong limit (kindOf (s .mark)) (s .l) _ _ _ (is-kind (s .mark)) letters same (rw words-long e))
+      lists-refused (count-wrong limit (kindOf (s .mark)) (s .l) _ _ _ (is-kind (s .mark)) letters lists-same (rw words-long e))
 
   -- the lists that were kept
   module _ {words ones twos : List ℕ} (keeps : Keeps (linesIn text) (s .m) words ones twos) where

@@ -1,5 +1,5 @@
--- "This is where the shift by one must be impossible": each entry of an imported card allows a place exactly if its line lists that place
--- and one. Assumes nothing.
+-- "This is where the shift by one must be impossible": each entry of an imported card allows the place q exactly if its line lists q + 1.
+-- Assumes nothing.
 use mathlib.Core.Path.{_≡_, ap, _∙_}
 use mathlib.Core.List.{List}
 use Prim.Native.Nat.{ℕ, _+_, _<_}
@@ -14,10 +14,9 @@ use Rattle.probes.specs.declared.scanning.Outline.{Outline}
 use Rattle.probes.specs.Line.{lists}
 use Rattle.probes.specs.Lines.{linesOf, lineIn}
 use Rattle.probes.specs.Testing.{scanning}
-use Rattle.probes.specs.Listing.{slotFor}
 use Rattle.probes.proofs.NoShift.{entry-no-shift}
 use Rattle.importing.specs.Importing.{kindIn, cardIn, Imports}
-use Rattle.importing.proofs.SoundCard.{entry-in, own-line}
+use Rattle.importing.proofs.SoundCard.{slotFor, entry-in, own-line}
 use Rattle.importing.proofs.Imported.{imported-sound, imported-card}
 
 module _ (text : List ℕ) {s : Outline} (holds : scanning text ≡ given s) where

@@ -6,6 +6,7 @@ use Prim.Native.Nat.{ℕ, _<_}
 use native.Mathlib.Omega.{arith}
 use lib.ListN.{length, getD, length-map}
 use Rattle.answers.specs.Answer.{given}
+use Rattle.entries.specs.declared.Slot.{Slot}
 use Rattle.entries.specs.Slot.{slotFrom}
 use Rattle.entries.specs.Entry.{entryOf}
 use Rattle.layout.specs.Layout.{toldBy, slotOf, entryAt}
@@ -19,11 +20,15 @@ use Rattle.probes.specs.declared.scanning.Outline.{Outline}
 use Rattle.probes.specs.Line.{Line, lineText}
 use Rattle.probes.specs.Lines.{linesOf, lineOf, linesIn, lineIn}
 use Rattle.probes.specs.Testing.{markOf, hasZero, lineMark, lineLetters, scanning, kindOf}
-use Rattle.probes.specs.Listing.{valueOf, oneOf, twoOf, slotFor}
+use Rattle.probes.specs.Listing.{valueOf, oneOf, twoOf}
 use Rattle.probes.proofs.LineLaws.{IsFine}
 use Rattle.probes.proofs.SoundLaws.{sound-shape, sound-line, line-text}
 use Rattle.probes.proofs.TextLaws.{map-at, line-in, lines-many}
 use Rattle.importing.specs.Importing.{kindIn, lettersIn, wordsIn, onesIn, twosIn, cardIn}
+
+-- the line x as an entry is stored
+unfoldable pub slotFor : ℕ → Line → Slot
+slotFor kind x = record { word = valueOf (x .word); one = oneOf (x .listed); two = twoOf kind (x .listed) }
 
 module _ (text : List ℕ) where
   pub words-many : length (wordsIn text) ≡ length (linesOf text)
@@ -38,7 +43,7 @@ module _ (text : List ℕ) where
     number-at f = map-at f (linesIn text) e (lineOf []) 0 (omega (arith, lines-many text))
 
     -- as it is stored
-    lists-slot : slotFrom (wordsIn text) (onesIn text) (twosIn text) e ≡ slotFor (kindIn text) (lineIn text e)
+    pub lists-slot : slotFrom (wordsIn text) (onesIn text) (twosIn text) e ≡ slotFor (kindIn text) (lineIn text e)
     unfolding slotFrom slotFor
     lists-slot =
         let word = number-at (λ x. valueOf (x .word)) in

@@ -27,6 +27,19 @@ value-letters (suc l) w h =
     let rest = value-letters l (w / 4) (omega arith) in
     value-more 0 (lettersOf l (w / 4)) (w % 4) ∙ omega arith
 
+-- the value of k codes is below 4^k
+below-from : (k v : ℕ) (cs : List ℕ) → areCodes cs ≡ true → v < 4 ^ k → valueFrom v cs < 4 ^ (k + length cs)
+below-from k v [] h small = let none : k + 0 ≡ k = omega arith in rw none small
+below-from k v (c ∷ cs) h small =
+    let parts = both (ltb c codes) (areCodes cs) h in
+    let below = ltb-true c codes (parts .0) in
+    let next : k + suc (length cs) ≡ suc k + length cs = omega arith in
+    let up = pow-succ' 4 k in
+    rw next (below-from (suc k) (codes * v + c) cs (parts .1) (omega arith))
+
+pub value-below : (cs : List ℕ) → areCodes cs ≡ true → valueOf cs < 4 ^ length cs
+value-below cs h = let all : 0 + length cs ≡ length cs = omega arith in rw all at (below-from 0 0 cs h (omega arith))
+
 -- ---- the letters of a word's value
 
 letters-from : (k v : ℕ) (cs : List ℕ) → areCodes cs ≡ true → lettersOf (k + length cs) (valueFrom v cs) ≡ lettersOf k v ++ cs

@@ -5,13 +5,14 @@
 --   cardIn text                                     == the card of the text
 --   importing limit text room                       == what importing answers, where the output has `room` bytes
 --   Imports limit text before r after               == the answer r, and every byte of the output afterwards
+--   RefusesBy n                                     == n is a number that importing refuses by
 -- Assumes nothing.
 use mathlib.Core.Path.{_≡_}
 use Prim.Native.Nat.{ℕ}
 use mathlib.Core.List.{List, [], _∷_, _++_}
 use lib.ListN.{length}
 use lib.Dec.{leb}
-use Rattle.answers.specs.Numbers.{Room}
+use Rattle.answers.specs.Numbers.{Length, Count, Places, Room, Text, Mixed, Uneven, Zero}
 use Rattle.answers.specs.Answer.{Answer, test, first}
 use Rattle.entries.specs.Slot.{slotFrom}
 use Rattle.layout.specs.Layout.{sizeOf}
@@ -53,3 +54,14 @@ importing limit text room =
 pub record Imports (limit : ℕ) (text before : List ℕ) (r : Written) (after : List ℕ) : Type 0 where
   pub answer : saysWritten r ≡ importing limit text (length before)
   pub bytes : after ≡ outputAfter (cardIn text) before (importing limit text (length before))
+
+-- "23 Text, 24 Mixed, 25 Uneven, 26 Zero"; then of the card 6, 7 and 11, then 12: 5, 10 and 13 do not occur
+pub data RefusesBy : ℕ → Type 0 where
+  no-text : RefusesBy Text
+  mixed : RefusesBy Mixed
+  uneven : RefusesBy Uneven
+  place-0 : RefusesBy Zero
+  letters : RefusesBy Length
+  count : RefusesBy Count
+  places : RefusesBy Places
+  no-room : RefusesBy Room

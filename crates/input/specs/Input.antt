@@ -1,6 +1,6 @@
 -- How much of standard input a program reads, where all of it is a card or a list. `limit` is the most entries that a card may have.
 --   programBytes limit       == the most bytes that it reads of a card
---   mostList                 == the most bytes of a list that it takes; it reads one more, so that a longer list is seen
+--   mostList, listBytes      == the most bytes of a list that it takes, and that it reads
 -- Assumes nothing.
 use Prim.Native.Nat.{ℕ, _+_}
 use Rattle.layout.specs.Layout.{sizeOf}
@@ -12,3 +12,7 @@ programBytes limit = sizeOf limit + 1
 
 abbrev pub mostList : ℕ
 mostList = 1048576
+
+-- one byte more is enough to see that a list is longer (`LongInput` of `converting`)
+abbrev pub listBytes : ℕ
+listBytes = mostList + 1

@@ -14,7 +14,7 @@ use Rattle.entries.specs.declared.Format.{Format}
 use Rattle.layout.specs.Layout.{toldBy}
 use Rattle.card.specs.Reading.{readingOrder}
 use Rattle.card.proofs.FetchingLaws.{order-admits}
-use Rattle.card.proofs.NumberLaws.{reader-below}
+use Rattle.card.proofs.RefusalNumbers.{reader-below}
 use Rattle.sequence.specs.Verdict.{sole, several, noBuild, Outcome, settled, unsettled}
 use Rattle.sequence.proofs.FillingLaws.{lt-or-le}
 use Rattle.builds.specs.Building.{buildTests, Says, refuses}

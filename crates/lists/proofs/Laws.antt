@@ -8,15 +8,15 @@ use native.Mathlib.Omega.{arith}
 use lib.ListN.{length}
 use lib.Dec.{eqb}
 use borrow.Author.Tests.{eq-eqb, ne-eqb, eqb-true}
-use Rattle.answers.specs.Numbers.{Kind, Length, Lists, Count}
+use Rattle.answers.specs.Numbers.{Kind, Length, Lists, Count, Word, Places}
 use Rattle.answers.specs.Answer.{given, refused, sound, first}
 use Rattle.answers.specs.Row.{inTurn}
 use Rattle.answers.proofs.Laws.{first-pass, first-fail, first-passed, turns-hold, turns-held}
-use Rattle.answers.proofs.Numbered.{Numbered, also, numbered-turns}
+use Rattle.answers.proofs.Only.{Only, Numbered, also, only-turns}
 use Rattle.answers.proofs.Tests.{both}
 use Rattle.entries.specs.Slot.{slotFrom}
 use Rattle.entries.specs.Fault.{leastLength, mostLength, entryTests}
-use Rattle.entries.proofs.Laws.{entry-numbered}
+use Rattle.entries.proofs.Laws.{entry-only}
 use Rattle.layout.specs.Bounds.{leastEntries, isWithin, isKind}
 use Rattle.lists.specs.Lists.{formatFor, sameLength, listsTests}
 
@@ -109,9 +109,14 @@ module _ {limit kind l : ℕ} {words ones twos : List ℕ} where
 
 -- ---- the numbers
 
--- whatever the lists are refused by is above 0
-pub lists-numbered : (limit kind l : ℕ) (words ones twos : List ℕ) → Numbered (listsTests limit kind l words ones twos)
-unfolding listsTests
-lists-numbered limit kind l words ones twos =
-    let each = numbered-turns (λ e. entry-numbered (formatFor kind l words) e (slotFrom words ones twos e)) 0 (length words) in
-    also {n = Kind} (omega arith) (also {n = Length} (omega arith) (also {n = Lists} (omega arith) (also {n = Count} (omega arith) each)))
+module _ (limit kind l : ℕ) (words ones twos : List ℕ) where
+  -- by which numbers lists are refused
+  pub lists-only : {P : ℕ → Type 0} → P Kind → P Length → P Lists → P Count → P Word → P Places → Only P (listsTests limit kind l words ones twos)
+  unfolding listsTests
+  lists-only kinds letters lists count word places =
+      also kinds (also letters (also lists (also count
+      (only-turns (λ e. entry-only (formatFor kind l words) e (slotFrom words ones twos e) word places) 0 (length words)))))
+
+  -- each is above 0
+  pub lists-numbered : Numbered (listsTests limit kind l words ones twos)
+  lists-numbered = lists-only (omega arith) (omega arith) (omega arith) (omega arith) (omega arith) (omega arith)

@@ -11,7 +11,7 @@ use Rattle.answers.specs.Numbers.{Kind, Room, Wider}
 use Rattle.answers.specs.Answer.{Answer, given, refused, Sound, sound, Test, test, first}
 use Rattle.answers.specs.Row.{row, inTurn}
 use Rattle.answers.proofs.Laws.{first-holds, first-refused, first-both, first-pass, first-passed, first-last, first-fail, given-not-refused}
-use Rattle.answers.proofs.Numbered.{Numbered, none, also, numbered-append}
+use Rattle.answers.proofs.Only.{Numbered, none, also, only-append}
 use Rattle.entries.specs.declared.Slot.{Slot}
 use Rattle.entries.specs.Slot.{entriesIn}
 use Rattle.entries.specs.Fault.{span}
@@ -113,7 +113,7 @@ module _ (kind : ℕ) (es : List Slot) (ts : List Test) where
 
   pub tests-numbered : Numbered ts → Numbered (settleTests kind es ts)
   unfolding settleTests
-  tests-numbered h = numbered-append h (also {n = Kind} (omega arith) (widths-numbered 0 es))
+  tests-numbered h = only-append h (also {n = Kind} (omega arith) (widths-numbered 0 es))
 
   -- tests of building that answer the same
   pub tests-same : (ts′ : List Test) → first ts sound ≡ first ts′ sound
@@ -152,7 +152,7 @@ module _ (limit kind l : ℕ) (words ones twos : List ℕ) (room : ℕ) where
 
   pub lists-build-numbered : Numbered (listsBuildTests limit kind l words ones twos room)
   unfolding listsBuildTests
-  lists-build-numbered = numbered-append (lists-numbered limit kind l words ones twos) (also {n = Room} (omega arith) none)
+  lists-build-numbered = only-append (lists-numbered limit kind l words ones twos) (also {n = Room} (omega arith) none)
 
   module _ (e : first (listsTests limit kind l words ones twos) sound ≡ given sound) where
     pub lists-no-room : room < lettersIn (formatFor kind l words)

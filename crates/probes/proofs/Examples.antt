@@ -1,16 +1,13 @@
 -- Worked examples of lines and of refusals. Assumes nothing.
 use mathlib.Core.Path.{_≡_, refl}
-use mathlib.Core.Bool.{Bool, true, false}
-use mathlib.Core.List.{List, [], _∷_, map}
-use mathlib.Core.Option.{Option, none, some}
-use Prim.Native.Nat.{ℕ}
-use Rattle.answers.specs.Answer.{Answer, given, refused, first}
+use mathlib.Core.List.{[], _∷_, map}
+use mathlib.Core.Option.{none, some}
+use Rattle.answers.specs.Answer.{given, refused, first}
 use Rattle.answers.specs.Row.{inTurn}
 use Rattle.letters.specs.Letters.{letters, searched, codeOf}
-use Rattle.text.specs.Text.{ascii, digitsIn, decimal}
-use Rattle.probes.specs.declared.line.Marked.the-variants.{Bare, Two, Run}
-use Rattle.probes.specs.declared.scanning.Outline.{Outline}
-use Rattle.probes.specs.Reading.{Read, readDigits, readNumber, readMarked, readListed, readCodes, after, readFirst, readLine}
+use Rattle.text.specs.Text.{ascii}
+use Rattle.probes.specs.declared.line.Marked.the-variants.{Two}
+use Rattle.probes.specs.Reading.{readDigits, readNumber, readMarked, readListed, readCodes, after, readFirst, readLine}
 use Rattle.probes.specs.Lines.{linesOf, isLine, lineOf}
 use Rattle.probes.specs.Testing.{known, saidTests, lineTests, textTests, scanning}
 

@@ -1,6 +1,6 @@
 -- The first line of a text, read: it is read exactly where a line stands at the start of the text. Assumes nothing.
 use mathlib.Core.Path.{_≡_, refl, sym, ap, _∙_}
-use mathlib.Core.Bool.{Bool, true, false}
+use mathlib.Core.Bool.{true, false}
 use mathlib.Core.List.{List, [], _∷_, _++_, append-assoc}
 use mathlib.Core.Option.{Option, none, some}
 use Prim.Native.Nat.{ℕ, _+_, _<_}
@@ -9,9 +9,9 @@ use lib.ListN.{length, getD, take, drop, length-append, take-append-drop}
 use lib.Seq.{take-append-add, drop-append-add}
 use Rattle.probes.specs.Line.{Line, lineText, fine}
 use Rattle.probes.specs.Reading.{newline, Read, readFirst, readLine}
-use Rattle.probes.specs.Lines.{isSome, orNothing, linesOf, isLine, lineOf}
+use Rattle.probes.specs.Lines.{isSome, linesOf, isLine, lineOf}
 use Rattle.probes.proofs.FindLaws.{firstAt, at-mark}
-use Rattle.probes.proofs.LineLaws.{First, first-read, first-text, Ends, line-ends, read-line}
+use Rattle.probes.proofs.LineLaws.{first-read, first-text, line-ends, read-line}
 use Rattle.probes.proofs.LinesLaws.{firstLine, lines-first, first-is}
 
 pub line-first : (x : Line) (ys : List ℕ) → fine x ≡ true → linesOf (lineText x ++ ys) ≡ lineText x ∷ linesOf ys

@@ -1,14 +1,14 @@
 -- What is kept of a sound text are its entries: of words that are short enough their values, and with the second places closed as its kind asks.
 -- Assumes nothing.
 use mathlib.Core.Path.{_≡_, refl, sym, ap, _∙_}
-use mathlib.Core.Bool.{Bool, true, false, cond, _&&_}
+use mathlib.Core.Bool.{Bool, true, false, cond}
 use mathlib.Core.List.{List, [], _∷_, map}
-use Prim.Native.Nat.{ℕ, zero, suc, _+_, _*_, _-_, _^_, _%_, _≤_, _<_}
+use Prim.Native.Nat.{ℕ, suc, _+_, _*_, _-_, _^_, _%_, _≤_, _<_}
 use native.Mathlib.Nat.{pow-succ', pow-le-pow-right}
 use native.Mathlib.Omega.{arith}
 use lib.ListN.{length, getD, length-map, List·getD-map}
 use lib.Dec.{leb, ltb, eqb}
-use borrow.Author.Tests.{leb-true, ltb-true, eq-eqb, ne-eqb, eqb-true, eqb-false}
+use borrow.Author.Tests.{leb-true, ltb-true, ne-eqb, eqb-true, eqb-false}
 use Rattle.answers.specs.Answer.{given}
 use Rattle.answers.proofs.Tests.{both}
 use Rattle.letters.specs.Letters.{codes}
@@ -23,7 +23,7 @@ use Rattle.probes.specs.Listing.{valueFrom, valueOf, oneOf, twoOf, words
 use Rattle.probes.specs.Says.{kept}
 use Rattle.probes.specs.Keeping.{wordKept, oneKept, twoKept, closed, closedFor}
 use Rattle.probes.proofs.LineLaws.{IsFine}
-use Rattle.probes.proofs.SoundLaws.{SoundLine, sound-line, line-text}
+use Rattle.probes.proofs.SoundLaws.{sound-line, line-text}
 
 -- ---- a word
 

@@ -2,40 +2,21 @@
 use mathlib.Core.Path.{_≡_, refl, sym, ap, _∙_}
 use mathlib.Core.Logic.{⊎-elim}
 use mathlib.Core.Bool.{Bool, true, false, cond}
-use mathlib.Core.List.{List, [], _∷_}
+use mathlib.Core.List.{List}
 use mathlib.Core.Option.{Option, none, some}
 use Prim.Native.Nat.{ℕ, _+_, _-_, _≤_, _<_}
 use native.Mathlib.Omega.{arith}
 use lib.ListN.{length, getD, drop}
-use lib.Dec.{eqb, ltb}
+use lib.Dec.{eqb}
 use borrow.Author.Tests.{eq-eqb, ne-eqb, lt-ltb, le-ltb}
 use Rattle.probes.specs.declared.line.Marked.{Marked}
 use Rattle.probes.specs.declared.line.Marked.the-variants.{Bare, Two, Run}
 use Rattle.probes.specs.declared.number.Numeral.{Numeral}
 use Rattle.probes.specs.declared.number.Numeral.the-variants.{Number, NoNumber}
 use Rattle.probes.specs.declared.line.Listing.{Listing}
-use Rattle.probes.specs.declared.line.Listing.the-variants.{Lists, NoListing}
 use Rattle.probes.specs.declared.line.Word.{Word}
-use Rattle.probes.specs.Line.{Line}
-use Rattle.probes.specs.Reading.{
-  tab,
-  newline,
-  comma,
-  hyphen,
-  Read,
-  readCodes,
-  readNumber,
-  bothOf,
-  readMarked,
-  listedFrom,
-  readListed,
-  after,
-  ended,
-  lineFrom,
-  tabbed,
-  readFirst,
-}
-use Rattle.probes.specs.Says.{Reads, saysNumber, numberEnd, saysListing, listingEnd, listsBoth, toldOf, stands, kept, Spelled}
+use Rattle.probes.specs.Reading.{tab, newline, comma, hyphen, readCodes, readNumber, bothOf, readMarked, listedFrom, readListed, after, ended, lineFrom, tabbed, readFirst}
+use Rattle.probes.specs.Says.{Reads, saysNumber, numberEnd, saysListing, listingEnd, listsBoth, toldOf, stands, Spelled}
 use Rattle.probes.proofs.NumberLaws.{lt-or-le}
 use Rattle.probes.proofs.NumberCursor.{here, past}
 

@@ -10,12 +10,11 @@ use lib.ListN.{length, getD, take}
 use lib.Seq.{length-take-le, getD-take, take-take}
 use lib.Dec.{eqb}
 use borrow.Author.Tests.{ne-eqb, eqb-true, eqb-false}
-use Rattle.answers.specs.Numbers.{Text, Mixed, Uneven, Zero}
 use Rattle.answers.specs.Answer.{given, sound, first}
 use Rattle.answers.proofs.Laws.{first-passed}
 use Rattle.probes.specs.Line.{Line}
 use Rattle.probes.specs.Lines.{linesOf, isLine, lineOf, linesIn, lineIn}
-use Rattle.probes.specs.Testing.{hasZero, lineMark, lineLetters, known, outlineOf, agree, saidTests, lineTests, testsAt}
+use Rattle.probes.specs.Testing.{lineMark, lineLetters, known, outlineOf, agree, saidTests, lineTests, testsAt}
 use Rattle.probes.proofs.NumberLaws.{lt-or-le}
 use Rattle.probes.proofs.SoundLaws.{line-text, known-is}
 use Rattle.probes.proofs.TextLaws.{line-in, lines-many}

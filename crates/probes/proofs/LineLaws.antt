@@ -11,7 +11,6 @@ use lib.Dec.{eqb, ltb}
 use borrow.Author.Tests.{eq-eqb, eqb-true, ltb-true, lt-ltb}
 use Rattle.answers.proofs.Tests.{both}
 use Rattle.letters.specs.Letters.{letters, letterOf, codeOf, searched}
-use Rattle.text.specs.Text.{ascii}
 use Rattle.probes.specs.declared.line.Marked.{Marked}
 use Rattle.probes.specs.Line.{Line, listedText, lineText, areCodes, isSmall, fine}
 use Rattle.probes.specs.Reading.{

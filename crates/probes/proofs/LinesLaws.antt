@@ -2,15 +2,15 @@
 use mathlib.Core.Path.{_≡_, refl, sym, ap, _∙_}
 use mathlib.Core.Logic.{⊎-elim}
 use mathlib.Core.Bool.{Bool, true, false, cond}
-use mathlib.Core.List.{List, [], _∷_, _++_}
-use Prim.Native.Nat.{ℕ, zero, suc, _+_, _-_, _≤_, _<_}
+use mathlib.Core.List.{List, [], _∷_}
+use Prim.Native.Nat.{ℕ, suc, _+_, _≤_, _<_}
 use native.Mathlib.Omega.{arith}
 use lib.ListN.{length, getD, take, drop, length-drop, drop-of-length-le}
 use lib.Seq.{length-take-le, take-all, drop-drop, getD-drop}
 use lib.Dec.{eqb}
 use Rattle.probes.specs.Reading.{newline}
 use Rattle.probes.specs.Lines.{joined, linesOf}
-use Rattle.probes.proofs.FindLaws.{firstAt, at-mark}
+use Rattle.probes.proofs.FindLaws.{firstAt}
 use Rattle.probes.proofs.NumberLaws.{lt-or-le}
 
 pub lines-none : linesOf [] ≡ []

@@ -15,7 +15,7 @@ use Rattle.probes.specs.declared.line.Marked.the-variants.{Bare, Two, Ru
 use Rattle.probes.specs.Line.{listedText, mostNumber, isSmall}
 use Rattle.probes.specs.Reading.{comma, hyphen, Read, isDigit, readNumber, bothOf, readMarked, listedFrom, readListed}
 use Rattle.probes.proofs.FindLaws.{firstAt, lack-joined, lack-one}
-use Rattle.probes.proofs.NumberLaws.{IsRead, number-read, number-text, decimal-lacks}
+use Rattle.probes.proofs.NumberLaws.{number-read, number-text, decimal-lacks}
 
 pub record Listed (xs : List ℕ) (r : Read Marked) : Type 0 where
   pub text : xs ≡ listedText (r .what) ++ r .rest

@@ -12,8 +12,9 @@ use Rattle.answers.specs.Answer.{given}
 use Rattle.entries.specs.Fault.{pair, span}
 use Rattle.probes.specs.declared.scanning.Outline.{Outline}
 use Rattle.probes.specs.Line.{Line}
-use Rattle.probes.specs.Lines.{linesOf, lineOf, linesIn}
+use Rattle.probes.specs.Lines.{lineOf, linesIn}
 use Rattle.probes.specs.Testing.{lineMark, known, outlineOf, scanning, kindOf}
+use Rattle.probes.proofs.SmallLaws.{kind-pair}
 use Rattle.probes.proofs.SoundLaws.{sound-shape, sound-line}
 use Rattle.probes.specs.Faults.{HasMark}
 use Rattle.probes.proofs.TextLaws.{line-in, lines-many}
@@ -50,9 +51,6 @@ kind-mark mark = (λ e. go (eqb mark span) refl e, λ e. rw (eq-eqb mark span e)
     go true q e = eqb-true mark span q
     go false q e = absurd (omega arith)
 
-pair-unless : (mark : ℕ) → (mark ≡ span → ⊥) → kindOf mark ≡ pair
-pair-unless mark n = rw (ne-eqb mark span n)
-
 module _ (text : List ℕ) {s : Outline} (holds : scanning text ≡ given s) where
   its-mark : {mark : ℕ} → (mark ≡ 0 → ⊥) → HasMark text mark → outlineOf (linesIn text) .mark ≡ mark
   its-mark n has =
@@ -74,10 +72,10 @@ module _ (text : List ℕ) {s : Outline} (holds : scanning text ≡ given s) whe
   pub pair-marked : HasMark text pair → kindOf (outlineOf (linesIn text) .mark) ≡ pair
   pair-marked has =
       let mark = its-mark (λ z. omega arith) has in
-      pair-unless (outlineOf (linesIn text) .mark) (λ e. omega (arith, mark))
+      sym (kind-pair (outlineOf (linesIn text) .mark) (λ e. omega (arith, mark)))
 
   -- "with neither a pair card"
   pub pair-unmarked : (kindOf (outlineOf (linesIn text) .mark) ≡ pair) ↔ (HasMark text span → ⊥)
   pair-unmarked =
       let mark : ℕ = outlineOf (linesIn text) .mark in
-      (λ e has. omega (arith, span-marked .1 has), λ n. pair-unless mark (λ e. n (span-marked .0 (kind-mark mark .1 e))))
+      (λ e has. omega (arith, span-marked .1 has), λ n. sym (kind-pair mark (λ e. n (span-marked .0 (kind-mark mark .1 e)))))

@@ -1,11 +1,9 @@
--- "This is where the shift by one must be impossible": an entry allows a place exactly if its line lists that place and one. Assumes nothing.
-use mathlib.Core.Path.{_≡_, refl, sym, ap, _∙_}
-use mathlib.Core.Logic.{_⊎_, inl, inr, ⊎-elim}
+-- "This is where the shift by one must be impossible": an entry allows the place q exactly if its line lists q + 1. Assumes nothing.
+use mathlib.Core.Path.{_≡_, refl, sym, _∙_}
 use mathlib.Core.Bool.{Bool, true, false, cond, _&&_, _||_}
-use mathlib.Core.List.{List, [], _∷_}
-use Prim.Native.Nat.{ℕ, zero, suc, _+_, _-_, _≤_, _<_}
+use Prim.Native.Nat.{ℕ, zero, suc, _+_, _-_, _<_}
 use native.Mathlib.Omega.{arith}
-use lib.Dec.{leb, ltb, eqb}
+use lib.Dec.{leb, eqb}
 use borrow.Author.Tests.{leb-true, le-leb, lt-leb, leb-false, eq-eqb, ne-eqb, eqb-true, eqb-false}
 use Rattle.answers.proofs.Tests.{both}
 use Rattle.entries.specs.Fault.{pair, span, noPlace}

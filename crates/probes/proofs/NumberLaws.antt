@@ -1,14 +1,14 @@
 -- Numbers that may be listed: what is read is a number in decimal, and a number in decimal reads as itself. Assumes nothing.
 use mathlib.Core.Path.{_≡_, refl, sym, ap, _∙_}
 use mathlib.Core.Logic.{_⊎_, inl, inr, ⊎-elim}
-use mathlib.Core.Bool.{Bool, true, false, cond, _&&_}
-use mathlib.Core.List.{List, [], _∷_, _++_, append-assoc, append-nil}
-use mathlib.Core.Option.{Option, none, some}
-use Prim.Native.Nat.{ℕ, zero, suc, _+_, _*_, _-_, _/_, _%_, _≤_, _<_}
+use mathlib.Core.Bool.{Bool, true, false, cond}
+use mathlib.Core.List.{List, [], _∷_, _++_, append-assoc}
+use mathlib.Core.Option.{none, some}
+use Prim.Native.Nat.{ℕ, zero, suc, _+_, _-_, _/_, _%_, _≤_, _<_}
 use native.Mathlib.Omega.{arith}
 use lib.ListN.{length}
 use lib.Dec.{leb, ltb, eqb}
-use borrow.Author.Tests.{leb-true, ltb-true, ltb-false, le-leb, ne-eqb, eqb-true, eqb-false, eq-eqb}
+use borrow.Author.Tests.{leb-true, ltb-true, ltb-false, le-leb, ne-eqb, eqb-true, eqb-false}
 use Rattle.answers.proofs.Tests.{both}
 use Rattle.text.specs.Text.{digit, decimal}
 use Rattle.text.proofs.DecimalLaws.{decimal-one, decimal-more}

@@ -1,8 +1,7 @@
 -- Laws of scanning a text: the lines so far, a line more, and the end. Assumes nothing.
 use mathlib.Core.Path.{_≡_, refl, sym, ap, _∙_}
-use mathlib.Core.Bool.{Bool, true, false}
 use mathlib.Core.List.{List, [], _∷_, _++_}
-use mathlib.Core.Option.{Option, none, some}
+use mathlib.Core.Option.{none, some}
 use Prim.Native.Nat.{ℕ, _+_, _-_, _≤_, _<_}
 use native.Mathlib.Numerals.{add-one}
 use native.Mathlib.Omega.{arith}
@@ -18,7 +17,8 @@ use Rattle.probes.specs.declared.scanning.Outline.{Outline}
 use Rattle.probes.specs.Line.{Line}
 use Rattle.probes.specs.Reading.{Read, readFirst}
 use Rattle.probes.specs.Lines.{linesOf, lineOf, linesIn}
-use Rattle.probes.specs.Testing.{lineLetters, known, outlineOf, saidTests, lineTests, outlineAfter, nextOutline, testsAt, textTests, scanning}
+use Rattle.probes.specs.Testing.{lineLetters, known, outlineOf, saidTests, lineTests, testsAt, textTests, scanning}
+use Rattle.probes.specs.Says.{outlineAfter, nextOutline}
 use Rattle.probes.proofs.LinesLaws.{firstLine, lines-passed, more-lines, this-line, end-within, left-next}
 use Rattle.probes.proofs.FirstLaws.{Begins, begins, begins-none}
 use Rattle.probes.proofs.TestLaws.{line-no-text, line-later, outline-more}

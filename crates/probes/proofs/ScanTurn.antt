@@ -1,6 +1,6 @@
 -- Laws of a turn of scanning: the line that was read, its tests, and the entry that is kept of it. Assumes nothing.
 use mathlib.Core.Path.{_≡_, refl, sym, ap, _∙_}
-use mathlib.Core.Bool.{true, false, not}
+use mathlib.Core.Bool.{false}
 use mathlib.Core.List.{List, []}
 use mathlib.Core.Option.{Option, none, some}
 use Prim.Native.Nat.{ℕ, _+_, _≤_, _<_}
@@ -16,9 +16,9 @@ use Rattle.probes.specs.declared.scanning.Outline.{Outline}
 use Rattle.probes.specs.Line.{Line}
 use Rattle.probes.specs.Reading.{Read, readFirst}
 use Rattle.probes.specs.Lines.{lineOf, linesIn}
-use Rattle.probes.specs.Testing.{hasZero, saidTests, outlineAfter, scanning}
+use Rattle.probes.specs.Testing.{hasZero, saidTests, scanning}
 use Rattle.probes.specs.Listing.{oneOf, twoOf}
-use Rattle.probes.specs.Says.{Told, toldOf, kept}
+use Rattle.probes.specs.Says.{Said, toldOf, kept, outlineAfter}
 use Rattle.probes.specs.Keeping.{Keeps}
 use Rattle.probes.proofs.ScanLaws.{SoFar, scan-start, scan-end, scan-no-text, scan-refused, this-read, more-in, scan-rises, scan-goes-on}
 use Rattle.probes.proofs.KeepLaws.{keeps-none, keeps-turn}
@@ -29,7 +29,7 @@ pub told-none : (o : Option (Read Line)) → none ≡ toldOf o → o ≡ none
 told-none none e = refl
 told-none (some r) e = let z : _≡_ {A = ℕ} 0 1 = cc in absurd (omega arith)
 
-record IsTold (o : Option (Read Line)) (t : Told) : Type 0 where
+record IsTold (o : Option (Read Line)) (t : Said) : Type 0 where
   r : Read Line
   is : o ≡ some r
   letters : t .letters ≡ length (r .what .word)
@@ -37,17 +37,17 @@ record IsTold (o : Option (Read Line)) (t : Told) : Type 0 where
   listed : t .listed ≡ r .what .listed
   rest : t .rest ≡ r .rest
 
-told-some : (o : Option (Read Line)) (t : Told) → some t ≡ toldOf o → IsTold o t
+told-some : (o : Option (Read Line)) (t : Said) → some t ≡ toldOf o → IsTold o t
 told-some none t e = let z : _≡_ {A = ℕ} 0 1 = cc in absurd (omega arith)
 told-some (some r) t e =
     let same : t ≡ record { letters = length (r .what .word); word = kept 0 (r .what .word); listed = r .what .listed; rest = r .rest } = cc in
     record {
       r = r;
       is = refl;
-      letters = ap (λ (u : Told). u .letters) same;
-      word = ap (λ (u : Told). u .word) same;
-      listed = ap (λ (u : Told). u .listed) same;
-      rest = ap (λ (u : Told). u .rest) same;
+      letters = ap (λ (u : Said). u .letters) same;
+      word = ap (λ (u : Said). u .word) same;
+      listed = ap (λ (u : Said). u .listed) same;
+      rest = ap (λ (u : Said). u .rest) same;
     }
 
 -- ---- the lines so far, and the entries that are kept
@@ -83,7 +83,7 @@ module _ {text words₀ : List ℕ} {s : Outline} {at : ℕ} {words ones twos : 
     pub turn-no-text : none ≡ toldOf (readFirst (drop at text)) → refused Text (s .m + 1) ≡ scanning text
     turn-no-text e = scan-no-text text s at (scans .so-far) h (told-none (readFirst (drop at text)) e)
 
-    module _ {t : Told} (told : some t ≡ toldOf (readFirst (drop at text))) where
+    module _ {t : Said} (told : some t ≡ toldOf (readFirst (drop at text))) where
       is-told : IsTold (readFirst (drop at text)) t
       is-told = told-some (readFirst (drop at text)) t told
 

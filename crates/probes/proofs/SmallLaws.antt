@@ -1,13 +1,11 @@
 -- Laws of the small tests, one for each outcome. Assumes nothing.
-use mathlib.Core.Path.{_≡_, refl, sym, ap, _∙_}
-use mathlib.Core.Bool.{Bool, true, false, cond, _||_}
+use mathlib.Core.Path.{_≡_}
+use mathlib.Core.Bool.{true, cond, _||_}
 use Prim.Native.Nat.{ℕ}
 use lib.Dec.{eqb}
 use borrow.Author.Tests.{eq-eqb, ne-eqb}
 use Rattle.entries.specs.Fault.{pair, span}
-use Rattle.probes.specs.declared.line.Marked.{Marked}
-use Rattle.probes.specs.declared.line.Marked.the-variants.{Bare, Two, Run}
-use Rattle.probes.specs.Testing.{hasZero, agree, kindOf}
+use Rattle.probes.specs.Testing.{agree, kindOf}
 
 module _ (a b : ℕ) where
   pub agree-first : a ≡ 0 → true ≡ agree a b
@@ -22,8 +20,8 @@ module _ (a b : ℕ) where
   pub known-second : a ≡ 0 → b ≡ cond (eqb a 0) b a
   known-second e = rw (eq-eqb a 0 e)
 
-  pub known-first : (a ≡ 0 → ⊥) → a ≡ cond (eqb a 0) b a
-  known-first n = rw (ne-eqb a 0 n)
+  pub known-own : (a ≡ 0 → ⊥) → a ≡ cond (eqb a 0) b a
+  known-own n = rw (ne-eqb a 0 n)
 
   pub zero-first : a ≡ 0 → true ≡ (eqb a 0 || eqb b 0)
   zero-first e = rw (eq-eqb a 0 e)

@@ -1,21 +1,20 @@
 -- What a sound text has: each line is a line, lists no place 0, has l letters, and its mark, if it has one, is the list's. Assumes nothing.
 use mathlib.Core.Path.{_≡_, refl, sym, ap, _∙_}
-use mathlib.Core.Logic.{_⊎_, inl, inr, ⊎-elim}
-use mathlib.Core.Bool.{Bool, true, false, not, cond}
-use mathlib.Core.List.{List, [], _∷_, _++_, map}
+use mathlib.Core.Logic.{_⊎_, ⊎-elim}
+use mathlib.Core.Bool.{Bool, true, false, cond}
+use mathlib.Core.List.{List, [], _∷_, _++_}
 use mathlib.Core.Option.{Option, none, some}
-use Prim.Native.Nat.{ℕ, zero, suc, _+_, _≤_, _<_}
-use native.Mathlib.Numerals.{add-one}
+use Prim.Native.Nat.{ℕ, suc, _+_, _<_}
 use native.Mathlib.Omega.{arith}
 use lib.ListN.{length, getD, take, drop, length-map, take-append-drop, List·getD-map}
 use lib.Seq.{take-suc}
 use lib.Dec.{eqb}
-use borrow.Author.Tests.{eq-eqb, ne-eqb, eqb-true, not-true}
-use Rattle.answers.specs.Answer.{Answer, given, refused, first, sound}
+use borrow.Author.Tests.{eq-eqb, eqb-true, not-true}
+use Rattle.answers.specs.Answer.{given, first, sound}
 use Rattle.answers.proofs.Laws.{first-passed, first-value, first-given-any, turns-held}
 use Rattle.answers.proofs.Tests.{either}
 use Rattle.probes.specs.declared.scanning.Outline.{Outline}
-use Rattle.probes.specs.Line.{Line, lineText, fine}
+use Rattle.probes.specs.Line.{Line, lineText}
 use Rattle.probes.specs.Reading.{readLine}
 use Rattle.probes.specs.Lines.{isSome, orNothing, linesOf, isLine, lineOf, linesIn}
 use Rattle.probes.specs.Testing.{

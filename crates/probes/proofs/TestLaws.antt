@@ -1,10 +1,10 @@
 -- Laws of the tests of a line, one for each outcome, and of a line more. Assumes nothing.
-use mathlib.Core.Path.{_≡_, refl, sym, ap, _∙_}
+use mathlib.Core.Path.{_≡_, refl, ap, _∙_}
 use mathlib.Core.Bool.{true, false, not, cond}
 use mathlib.Core.List.{List, [], _∷_, _++_}
 use Prim.Native.Nat.{ℕ, zero, suc, _+_}
 use native.Mathlib.Omega.{arith}
-use lib.ListN.{length, length-append}
+use lib.ListN.{length-append}
 use lib.Dec.{eqb}
 use borrow.Author.Tests.{ne-eqb}
 use Rattle.answers.specs.Numbers.{Text, Mixed, Uneven, Zero}
@@ -14,7 +14,8 @@ use Rattle.probes.specs.declared.line.Marked.{Marked}
 use Rattle.probes.specs.declared.scanning.Outline.{Outline}
 use Rattle.probes.specs.Line.{Line}
 use Rattle.probes.specs.Lines.{isLine, lineOf}
-use Rattle.probes.specs.Testing.{markOf, hasZero, lineMark, lineLetters, known, outlineOf, agree, saidTests, lineTests, outlineAfter, nextOutline}
+use Rattle.probes.specs.Testing.{markOf, hasZero, lineMark, lineLetters, known, outlineOf, agree, saidTests, lineTests}
+use Rattle.probes.specs.Says.{outlineAfter, nextOutline}
 
 -- ---- one line
 

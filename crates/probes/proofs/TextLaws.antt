@@ -7,7 +7,6 @@ use native.Mathlib.Omega.{arith}
 use lib.ListN.{length, getD, length-append, length-map, List·getD-map}
 use lib.Dec.{eqb}
 use Rattle.probes.specs.Reading.{newline}
-use Rattle.probes.specs.Line.{Line}
 use Rattle.probes.specs.Lines.{joined, linesOf, lineOf, linesIn, lineIn}
 
 -- an element of a list, each of which is changed

@@ -1,13 +1,13 @@
 -- Laws of the letters read from a place of a text. Assumes nothing.
-use mathlib.Core.Path.{_≡_, refl, sym, ap, _∙_}
+use mathlib.Core.Path.{_≡_, refl, ap, _∙_}
 use mathlib.Core.Bool.{true, false}
 use mathlib.Core.List.{List, [], _∷_}
-use Prim.Native.Nat.{ℕ, _+_, _*_, _^_, _%_, _≤_, _<_}
+use Prim.Native.Nat.{ℕ, _+_, _*_, _%_, _≤_, _<_}
 use native.Mathlib.Omega.{arith}
 use lib.ListN.{length, getD, drop}
 use Rattle.letters.specs.Letters.{Reading, code, noLetter, codeOf}
 use Rattle.letters.proofs.Inverse.{letter-code}
-use Rattle.probes.specs.Reading.{Read, lettersFrom, readCodes}
+use Rattle.probes.specs.Reading.{lettersFrom, readCodes}
 use Rattle.probes.specs.Says.{isLetter, codeIn, kept, Spelled}
 use Rattle.probes.proofs.NumberCursor.{here, past}
 

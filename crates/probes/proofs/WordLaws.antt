@@ -1,6 +1,6 @@
 -- Letters: what is read are the codes of the letters at the start of a text, and letters read as their codes. Assumes nothing.
 use mathlib.Core.Path.{_≡_, refl, sym, ap, _∙_}
-use mathlib.Core.Bool.{true, _&&_}
+use mathlib.Core.Bool.{true}
 use mathlib.Core.List.{List, [], _∷_, _++_, map}
 use Prim.Native.Nat.{ℕ}
 use native.Mathlib.Omega.{arith}
@@ -11,7 +11,7 @@ use Rattle.answers.proofs.Tests.{both}
 use Rattle.letters.specs.Letters.{codes, letterOf, Reading, code, noLetter, codeOf}
 use Rattle.letters.proofs.Inverse.{code-letter, letter-code}
 use Rattle.probes.specs.Line.{areCodes}
-use Rattle.probes.specs.Reading.{Read, lettersFrom, readCodes}
+use Rattle.probes.specs.Reading.{lettersFrom, readCodes}
 use Rattle.probes.proofs.FindLaws.{firstAt, lack-one}
 
 pub letters-read : (xs : List ℕ) → (xs ≡ map letterOf (readCodes xs .what) ++ readCodes xs .rest) × (areCodes (readCodes xs .what) ≡ true)

@@ -50,7 +50,7 @@ pub record Empty (text : List ℕ) (n p : ℕ) : Type 0 where
   pub number : n ≡ Text
   pub line : p ≡ 1
 
--- the first line at fault, from 0
+-- the first line at fault: `line` counts from 0, and p from 1
 pub record FirstAtFault (text : List ℕ) (n p : ℕ) : Type 0 where
   pub line : ℕ
   pub within : line < length (linesOf text)

@@ -1,8 +1,9 @@
 -- The entries that scanning keeps in lent lists. A reader of the public contracts needs none of it.
---   Keeps text words ones twos     == where the lists have room for an entry of each line of the text, these are at their start: each line as on a
---                                     pair list, with what is kept of its word
---   closed ones twos               == the second places, where one that is missing is the first
---   closedFor kind ones twos       == the same on a span list; on a pair list they stay
+--   Holds f xs m l               == where the list l has room for m slots, its first m are f x for the first m lines x of xs
+--   Keeps xs m words ones twos   == the three lists hold the entries of the first m lines of xs: each line as on a pair list, with what is kept
+--                                   of its word
+--   closed ones twos             == the second places, where one that is missing is the first
+--   closedFor kind ones twos     == the same on a span list; on a pair list they stay
 -- Assumes nothing.
 use mathlib.Core.Path.{_≡_}
 use Prim.Native.Nat.{ℕ, _≤_}
@@ -12,11 +13,9 @@ use lib.ListN.{length, take}
 use lib.Dec.{eqb}
 use Rattle.entries.specs.Fault.{pair, span, noPlace}
 use Rattle.probes.specs.Line.{Line}
-use Rattle.probes.specs.Lines.{linesIn}
 use Rattle.probes.specs.Listing.{oneOf, twoOf}
 use Rattle.probes.specs.Says.{kept}
 
--- the first m slots of a list are those of the first m lines
 abbrev pub Holds : (Line → ℕ) → List Line → ℕ → List ℕ → Type 0
 Holds f xs m l = m ≤ length l → take m l ≡ map f (take m xs)
 

@@ -33,7 +33,7 @@ lineText x = map letterOf (x .word) ++ (ascii "\t" ++ (listedText (x .listed) ++
 abbrev pub mostNumber : ℕ
 mostNumber = 65535
 
--- the most bytes of a line that a card can have: 12 letters, a tab, two numbers of five digits with a mark between them, and a newline
+-- no line of at most 12 letters has more bytes: a tab, two numbers of at most five digits with a mark between them, and a newline
 abbrev pub mostLine : ℕ
 mostLine = mostLength + 13
 

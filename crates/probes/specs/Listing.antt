@@ -1,7 +1,6 @@
 -- The entries that lines stand for (02, §2): "each listed place p means card place p−1"; "On a span list a bare `7` means 7-7."
 --   valueOf cs           == the value of the word of the codes cs, "first letter most significant"
 --   oneOf y, twoOf kind y    == the two places of an entry as it is stored, where y is listed on a list of this kind
---   slotFor kind x       == the line x as an entry is stored
 --   wordsOf xs, onesOf xs, twosOf kind xs    == the three lists of the lines xs
 -- Assumes nothing.
 use Prim.Native.Nat.{ℕ, _+_, _*_, _-_}
@@ -9,7 +8,6 @@ use mathlib.Core.Bool.{cond}
 use mathlib.Core.List.{List, [], _∷_, map}
 use lib.Dec.{eqb}
 use Rattle.letters.specs.Letters.{codes}
-use Rattle.entries.specs.declared.Slot.{Slot}
 use Rattle.entries.specs.Fault.{span, noPlace}
 use Rattle.probes.specs.declared.line.Marked.{Marked}
 use Rattle.probes.specs.declared.line.Marked.the-variants.{Bare, Two, Run}
@@ -32,9 +30,6 @@ abbrev pub twoOf : ℕ → Marked → ℕ
 twoOf kind (Bare p) = cond (eqb kind span) (p - 1) noPlace
 twoOf kind (Two p q) = q - 1
 twoOf kind (Run p q) = q - 1
-
-unfoldable pub slotFor : ℕ → Line → Slot
-slotFor kind x = record { word = valueOf (x .word); one = oneOf (x .listed); two = twoOf kind (x .listed) }
 
 abbrev pub wordsOf : List Line → List ℕ
 wordsOf xs = map (λ x. valueOf (x .word)) xs

@@ -2,16 +2,18 @@
 --   Reads text said read end     == what is said is what is read, and the text goes on at `end`
 --   saysNumber text r, saysListing text r, saysLined text r, saysScanned r    == what each enum says
 --   numberEnd r, listingEnd r, lineEnd r                                      == where the text goes on
---   toldOf o                     == what is told of a line that is read
+--   Said, toldOf o               == what is told of a line that is read
 --   kept v cs                    == the value that is kept of a word: of its last 16 letters, where v is that of the letters before cs
+--   outlineAfter s n y           == the outline s with a line more, of n letters and what it lists
 --   Spelled text at w            == w is told of the letters of the text from `at` on
 -- Assumes nothing.
 use mathlib.Core.Path.{_≡_}
 use Prim.Native.Nat.{ℕ, _+_, _*_, _^_, _%_, _≤_}
-use mathlib.Core.Bool.{Bool, true, false}
+use mathlib.Core.Bool.{Bool, true, false, cond}
 use mathlib.Core.List.{List, [], _∷_}
 use mathlib.Core.Option.{Option, none, some}
 use lib.ListN.{length, drop}
+use lib.Dec.{eqb}
 use Rattle.answers.specs.Answer.{Answer, given, refused}
 use Rattle.letters.specs.Letters.{Reading, code, noLetter, codes}
 use Rattle.probes.specs.declared.line.Marked.{Marked}
@@ -27,6 +29,7 @@ use Rattle.probes.specs.declared.scanning.Scanned.{Scanned}
 use Rattle.probes.specs.declared.scanning.Scanned.the-variants.{Sound, Refused}
 use Rattle.probes.specs.Line.{Line}
 use Rattle.probes.specs.Reading.{Read, readCodes}
+use Rattle.probes.specs.Testing.{markOf, lineLetters}
 
 pub record Reads {A : Type 0} (text : List ℕ) (said read : Option A) (end : ℕ) : Type 0 where
   pub says : said ≡ read
@@ -75,13 +78,13 @@ pub record Spelled (text : List ℕ) (at : ℕ) (w : Word) : Type 0 where
 
 -- ---- a line
 
-pub record Told : Type 0 where
+pub record Said : Type 0 where
   pub letters : ℕ
   pub word : ℕ
   pub listed : Marked
   pub rest : List ℕ
 
-abbrev pub saysLined : List ℕ → Lined → Option Told
+abbrev pub saysLined : List ℕ → Lined → Option Said
 saysLined text (IsLine t) = some (record { letters = t .letters; word = t .word; listed = t .listed; rest = drop (t .end) text })
 saysLined text NoLine = none
 
@@ -89,7 +92,7 @@ abbrev pub lineEnd : Lined → ℕ
 lineEnd (IsLine t) = t .end
 lineEnd NoLine = 0
 
-abbrev pub toldOf : Option (Read Line) → Option Told
+abbrev pub toldOf : Option (Read Line) → Option Said
 toldOf none = none
 toldOf (some r) =
     some (record { letters = length (r .what .word); word = kept 0 (r .what .word); listed = r .what .listed; rest = r .rest })
@@ -98,6 +101,20 @@ toldOf (some r) =
 abbrev pub stands : Option (List ℕ) → Bool
 stands none = false
 stands (some xs) = true
+
+-- ---- a line more
+
+-- the outline s with a line of so many letters, and what is listed after them
+abbrev pub outlineAfter : Outline → ℕ → Marked → Outline
+outlineAfter s letters listed =
+    record {
+      mark = cond (eqb (s .mark) 0) (markOf listed) (s .mark);
+      l = cond (eqb (s .l) 0) letters (s .l);
+      m = s .m + 1;
+    }
+
+abbrev pub nextOutline : Outline → Line → Outline
+nextOutline s x = outlineAfter s (lineLetters x) (x .listed)
 
 abbrev pub saysScanned : Scanned → Answer Outline
 saysScanned (Sound s) = given s

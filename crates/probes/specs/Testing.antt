@@ -1,15 +1,15 @@
--- The tests of a text (02, §2): "Refusals, with line from 1: 23 Text, 24 Mixed, 25 Uneven, 26 Zero; lowest line first, and in that order
--- within a line."
+-- The tests of a text (02, §2): "Refusals, with line from 1: 23 Text …, 24 Mixed …, 25 Uneven …, 26 Zero …; lowest line first, and in that
+-- order within a line."
 --   markOf y             == the kind that the mark of a line asks for, 0 where it has none
 --   known f xs           == the first of f x, for the lines x, that is not 0; or 0
---   outlineOf xs           == the mark, the letters of a word and the number of the lines xs
---   nextOutline s x        == the shape with the line x more
---   lineTests s bs       == the tests of the line bs, where the lines before it have the shape s
+--   outlineOf xs         == what the lines xs say together: their mark; l, which "comes from the first word", as no word is empty; how many they are
+--   lineTests s bs       == the tests of the line bs, where the lines before it have the outline s; `saidTests` are those after its text
 --   textTests bs         == the tests of the text bs
+--   scanning bs          == what they answer: the outline, or the refusal
 --   kindOf mark          == the kind of card: "A list with any comma is a pair card, with any hyphen a span card, with neither a pair card."
 -- Assumes nothing.
 use Prim.Native.Nat.{ℕ, _+_}
-use mathlib.Core.Bool.{Bool, not, cond, _&&_, _||_}
+use mathlib.Core.Bool.{Bool, not, cond, _||_}
 use mathlib.Core.List.{List, [], _∷_}
 use lib.ListN.{length, take, getD}
 use lib.Dec.{ltb, eqb}
@@ -60,18 +60,6 @@ saidTests s letters listed =
 
 unfoldable pub lineTests : Outline → List ℕ → List Test
 lineTests s bs = test (isLine bs) Text (s .m + 1) ∷ saidTests s (lineLetters (lineOf bs)) (lineOf bs .listed)
-
--- a line more
-abbrev pub outlineAfter : Outline → ℕ → Marked → Outline
-outlineAfter s letters listed =
-    record {
-      mark = cond (eqb (s .mark) 0) (markOf listed) (s .mark);
-      l = cond (eqb (s .l) 0) letters (s .l);
-      m = s .m + 1;
-    }
-
-abbrev pub nextOutline : Outline → Line → Outline
-nextOutline s x = outlineAfter s (lineLetters x) (x .listed)
 
 -- the tests of line e, from 0
 abbrev pub testsAt : List ℕ → ℕ → List Test

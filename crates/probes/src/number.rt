@@ -2,7 +2,6 @@
 ghost use mathlib.Core.Path.{_≡_};
 ghost use Prim.Native.Nat.{_≤_};
 ghost use lib.ListN.{length, drop};
-ghost use Rattle.probes.specs.Line.{mostNumber};
 ghost use Rattle.probes.specs.Reading.{isDigit, readDigits, readNumber};
 ghost use Rattle.probes.specs.Says.{Reads, saysNumber, numberEnd};
 

@@ -1,5 +1,5 @@
-// Text put into a buffer, one part after the other: each function puts its part from `at` on, and answers where the next begins. Each asks
-// for room for its part.
+// Text put into a buffer, one part after the other: each function that puts a part puts it from `at` on, or at the start, answers where the next
+// begins, and asks for room for it.
 ghost use mathlib.Core.List.{[], _∷_, _++_};
 ghost use mathlib.Core.Path.{_≡_};
 ghost use Prim.Native.Nat.{_+_, _≤_, _<_};

@@ -5,7 +5,7 @@ use Prim.Native.Nat.{ℕ, _<_}
 use native.Mathlib.Omega.{arith}
 use Rattle.answers.specs.Numbers.{Room}
 use Rattle.answers.specs.Answer.{refused}
-use Rattle.answers.proofs.Numbered.{none, also, numbered-append, numbered-refused}
+use Rattle.answers.proofs.Only.{none, also, only-append, only-refused}
 use Rattle.lists.proofs.Laws.{lists-numbered}
 use Rattle.writer.specs.Writing.{writing}
 
@@ -13,5 +13,5 @@ pub writing-number : (limit kind l : ℕ) (words ones twos : List ℕ) (room : �
     → writing limit kind l words ones twos room ≡ refused n p → 0 < n
 unfolding writing
 writing-number limit kind l words ones twos room e =
-    numbered-refused
-    (numbered-append (lists-numbered limit kind l words ones twos) (also {n = Room} (omega arith) none)) _ e
+    only-refused
+    (only-append (lists-numbered limit kind l words ones twos) (also {n = Room} (omega arith) none)) _ e

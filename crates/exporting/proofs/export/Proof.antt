@@ -1,10 +1,15 @@
--- `exporting::export` meets its contract. Assumes nothing.
+-- `export` meets its contract. Assumes nothing.
 use mathlib.Core.Path.{sym, ap, _∙_}
+use Rattle.block.specs.Bytes.{AreBytes}
 use Rattle.card.specs.Fetching.{saysAdmitted}
 use Rattle.exporting.proofs.ExportLaws.{export-refused}
 use borrow.Author.Needs.{needs}
 use Rattle.exporting.proofs.export.Statement.{statement}
 use Rattle.exporting.proofs.export.Tie as tie
+
+-- the card is of bytes
+of-bytes : (c : tie.After-shared-slice-known) → AreBytes (c .before .args .card .now)
+of-bytes c i = c .shared-slice-known .given i .fits
 
 admit-requires : tie.Need-admit-requires
 admit-requires c κs = search needs
@@ -25,7 +30,9 @@ returns : tie.Need-returns
 returns c = search needs
 
 returns-2 : tie.Need-returns-2
-returns-2 c = export-refused (sym (c .before .before .before .admit .ensures) ∙ ap saysAdmitted (c .before .r .given .1))
+returns-2 c =
+    let answered = c .before .before .before in
+    export-refused (of-bytes (answered .before .before)) (sym (answered .admit .ensures) ∙ ap saysAdmitted (c .before .r .given .1))
 
 pub export-spec : {M : Type 1} → statement M
 export-spec =

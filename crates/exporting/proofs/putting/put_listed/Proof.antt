@@ -15,7 +15,9 @@ cast-put-digits : tie.Need-cast-put-digits
 cast-put-digits c = search needs
 
 put-digits-requires : tie.Need-put-digits-requires
-put-digits-requires c κs = let start = c .before .before .before .before .before in omega (arith, start .pre, ap (λ y. length (listedText y)) (c .before .before .listed .given .1))
+put-digits-requires c κs =
+    let start = c .before .before .before .before .before in
+    omega (arith, start .pre, ap (λ y. length (listedText y)) (c .before .before .listed .given .1))
 
 enum-known-listed-2 : tie.Need-enum-known-listed-2
 enum-known-listed-2 c = search needs
@@ -24,7 +26,9 @@ slice-aggregate-put-both : tie.Need-slice-aggregate-put-both
 slice-aggregate-put-both c = search needs
 
 put-both-requires : tie.Need-put-both-requires
-put-both-requires c κs = let start = c .before .before .before .before .before .before in omega (arith, start .pre, ap (λ y. length (listedText y)) (c .before .before .before .listed2 .given .1))
+put-both-requires c κs =
+    let start = c .before .before .before .before .before .before in
+    omega (arith, start .pre, ap (λ y. length (listedText y)) (c .before .before .before .listed2 .given .1))
 
 enum-known-listed-3 : tie.Need-enum-known-listed-3
 enum-known-listed-3 c = search needs
@@ -33,25 +37,33 @@ slice-aggregate-put-both-2 : tie.Need-slice-aggregate-put-both-2
 slice-aggregate-put-both-2 c = search needs
 
 put-both-requires-2 : tie.Need-put-both-requires-2
-put-both-requires-2 c κs = let start = c .before .before .before .before .before .before in omega (arith, start .pre, ap (λ y. length (listedText y)) (c .before .before .before .listed3 .given .1))
+put-both-requires-2 c κs =
+    let start = c .before .before .before .before .before .before in
+    omega (arith, start .pre, ap (λ y. length (listedText y)) (c .before .before .before .listed3 .given .1))
 
 same-length : tie.Need-same-length
 same-length c = search needs
 
 returns : tie.Need-returns
-returns c = let put = c .before .before in put-as (put .put-digits .ensures) (sym (ap listedText (put .before .before .before .listed .given .1)))
+returns c =
+    let put = c .before .before in
+    put-as (put .put-digits .ensures) (sym (ap listedText (put .before .before .before .listed .given .1)))
 
 same-length-2 : tie.Need-same-length-2
 same-length-2 c = search needs
 
 returns-2 : tie.Need-returns-2
-returns-2 c = let put = c .before .before in put-as (put .put-both .ensures) (sym (ap listedText (put .before .before .before .before .listed2 .given .1)))
+returns-2 c =
+    let put = c .before .before in
+    put-as (put .put-both .ensures) (sym (ap listedText (put .before .before .before .before .listed2 .given .1)))
 
 same-length-3 : tie.Need-same-length-3
 same-length-3 c = search needs
 
 returns-3 : tie.Need-returns-3
-returns-3 c = let put = c .before .before in put-as (put .put-both2 .ensures) (sym (ap listedText (put .before .before .before .before .listed3 .given .1)))
+returns-3 c =
+    let put = c .before .before in
+    put-as (put .put-both2 .ensures) (sym (ap listedText (put .before .before .before .before .listed3 .given .1)))
 
 pub put-listed-spec : {M : Type 1} → statement M
 put-listed-spec =

@@ -1,5 +1,4 @@
 -- `close` meets its contract. The invariant is `Closed`. What falls is how many are left. Assumes nothing.
-use mathlib.Core.Path.{_≡_}
 use Prim.Native.Nat.{_-_, _<_}
 use native.Mathlib.Omega.{arith}
 use lib.ListN.{length}

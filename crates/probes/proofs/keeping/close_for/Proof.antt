@@ -15,7 +15,10 @@ same-length : tie.Need-same-length
 same-length c = search needs
 
 returns-2 : tie.Need-returns-2
-returns-2 c = let did = c .before .before in did .close .ensures ∙ for-span _ (did .before .before .before .before .before .args .ones .now) _ (did .before .before .if1 .left)
+returns-2 c =
+    let did = c .before .before in
+    let span = did .before .before in
+    did .close .ensures ∙ for-span _ (span .before .before .before .args .ones .now) _ (span .if1 .left)
 
 pub close-for-spec : {M : Type 1} → statement M
 close-for-spec = tie.close (tie.spec returns close-requires same-length returns-2)

@@ -1,6 +1,5 @@
 -- `agrees` meets its contract. Assumes nothing.
 use Rattle.probes.proofs.SmallLaws.{agree-first, agree-second, agree-both}
-use borrow.Author.Needs.{needs}
 use Rattle.probes.proofs.scanning.agrees.Statement.{statement}
 use Rattle.probes.proofs.scanning.agrees.Tie as tie
 

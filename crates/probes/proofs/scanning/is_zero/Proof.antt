@@ -1,6 +1,5 @@
 -- `is_zero` meets its contract. Assumes nothing.
 use Rattle.probes.proofs.SmallLaws.{zero-first, zero-second}
-use borrow.Author.Needs.{needs}
 use Rattle.probes.proofs.scanning.is_zero.Statement.{statement}
 use Rattle.probes.proofs.scanning.is_zero.Tie as tie
 

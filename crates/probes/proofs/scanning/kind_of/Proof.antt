@@ -1,6 +1,5 @@
 -- `kind_of` meets its contract. Assumes nothing.
 use Rattle.probes.proofs.SmallLaws.{kind-span, kind-pair}
-use borrow.Author.Needs.{needs}
 use Rattle.probes.proofs.scanning.kind_of.Statement.{statement}
 use Rattle.probes.proofs.scanning.kind_of.Tie as tie
 

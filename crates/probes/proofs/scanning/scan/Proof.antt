@@ -8,8 +8,8 @@ use lib.ListN.{length, drop}
 use borrow.Author.Needs.{needs}
 use Rattle.answers.specs.Answer.{given, first}
 use Rattle.probes.specs.Reading.{readFirst}
-use Rattle.probes.specs.Testing.{saidTests, outlineAfter}
-use Rattle.probes.specs.Says.{Told, saysLined, lineEnd, toldOf, saysScanned}
+use Rattle.probes.specs.Testing.{saidTests}
+use Rattle.probes.specs.Says.{Said, saysLined, lineEnd, toldOf, saysScanned, outlineAfter}
 use Rattle.probes.proofs.ScanLaws.{scan-empty}
 use Rattle.probes.proofs.ScanTurn.{Scanning, none-kept, scanning-none, scanning-all, turn-no-text, turn-refused, turn-no-zero, turn-rises, turn-on}
 use Rattle.probes.proofs.scanning.scan.Statement.{statement}
@@ -37,7 +37,7 @@ module _ (c : tie.After-known-told Inv-loop μ-loop) where
   abbrev text : List ℕ
   text = started (turn-of .before) .args .text .now
 
-  abbrev probe : Told
+  abbrev probe : Said
   probe =
       let t = c .before .t .given .0 .0 in
       record { letters = t .letters; word = t .word; listed = t .listed; rest = drop (t .end) text }
