@@ -28,7 +28,7 @@ use Rattle.importing.specs.Importing.{kindIn, lettersIn, wordsIn, cardIn}
 use Rattle.importing.proofs.WordBack.{letters-value}
 use Rattle.importing.proofs.SoundCard.{slotFor, OwnLine, words-many, told-in, slot-in, own-line, own-text}
 use Rattle.exporting.specs.Exporting.{listedFor, lineFor, textOf, linesFor, listOf}
-use Rattle.exporting.specs.Back.{hyphened, spelledOut}
+use Rattle.exporting.specs.Back.{hyphened, spelledOut, backOf}
 use Rattle.exporting.proofs.PutLaws.{for-span, for-one, for-two}
 
 -- ---- a line that became an entry, listed
@@ -105,7 +105,7 @@ module _ (text : List ℕ) {s : Outline} (holds : scanning text ≡ given s) whe
       ∙ ap (map (spelledOut kind)) (row-of (lineOf []) (linesIn text)))
 
   -- the list of its card
-  pub list-again : listOf (cardIn text) ≡ textOf (map (spelledOut (kindIn text)) (linesIn text))
+  pub list-again : listOf (cardIn text) ≡ backOf text
   list-again = ap textOf lines-again
 
   -- the text of its lines is the text

@@ -26,7 +26,7 @@ use Rattle.probes.specs.Lines.{linesOf, lineOf, linesIn}
 use Rattle.probes.specs.Testing.{outlineOf, textTests, scanning, kindOf}
 use Rattle.probes.specs.Listing.{valueOf, oneOf, twoOf, twosOf}
 use Rattle.probes.specs.Keeping.{wordKept, oneKept, twoKept, Keeps, closedFor}
-use Rattle.probes.proofs.SoundLaws.{sound-shape, sound-count}
+use Rattle.probes.proofs.SoundLaws.{sound-outline, sound-count}
 use Rattle.probes.proofs.KeptLaws.{words-kept, twos-kept}
 use Rattle.importing.specs.Importing.{kindIn, lettersIn, wordsIn, onesIn, twosIn, cardIn, importing, Imports}
 use Rattle.importing.proofs.SoundCard.{words-many}
@@ -52,7 +52,7 @@ module _ (limit : ℕ) (text before : List ℕ) where
         → Imports limit text before r after
     unfolding cardIn
     import-sound did =
-        let shape = sound-shape text holds in
+        let shape = sound-outline text holds in
         let own = rw shape at did in
         record {
           answer = own .answer ∙ sym (importing-writes limit text (length before) holds);
@@ -111,7 +111,7 @@ module _ (limit : ℕ) (text : List ℕ) {s : Outline} (holds : scanning text �
         (closedFor (kindOf (s .mark)) (take (s .m) ones) (take (s .m) twos)) before r after
         → Writes limit (kindOf (s .mark)) (s .l) (wordsIn text) (onesIn text) (twosIn text) before r after
     sound-written g h k short did =
-        let mark : s .mark ≡ outlineOf (linesIn text) .mark = ap (λ (t : Outline). t .mark) (sound-shape text holds) in
+        let mark : s .mark ≡ outlineOf (linesIn text) .mark = ap (λ (t : Outline). t .mark) (sound-outline text holds) in
         let is-words : take (s .m) words ≡ wordsIn text = keeps .in-words g ∙ ap (map wordKept) all-lines ∙ words-kept text holds short in
         let is-ones : take (s .m) ones ≡ onesIn text = keeps .in-ones h ∙ ap (map oneKept) all-lines in
         let is-twos : closedFor (kindOf (s .mark)) (take (s .m) ones) (take (s .m) twos) ≡ twosIn text =

@@ -22,7 +22,7 @@ use Rattle.probes.specs.Lines.{linesOf, lineOf, linesIn, lineIn}
 use Rattle.probes.specs.Testing.{markOf, hasZero, lineMark, lineLetters, scanning, kindOf}
 use Rattle.probes.specs.Listing.{valueOf, oneOf, twoOf}
 use Rattle.probes.proofs.LineLaws.{IsFine}
-use Rattle.probes.proofs.SoundLaws.{sound-shape, sound-line, line-text}
+use Rattle.probes.proofs.SoundLaws.{sound-outline, sound-line, line-text}
 use Rattle.probes.proofs.TextLaws.{map-at, line-in, lines-many}
 use Rattle.importing.specs.Importing.{kindIn, lettersIn, wordsIn, onesIn, twosIn, cardIn}
 
@@ -81,7 +81,7 @@ module _ (text : List ℕ) {s : Outline} (holds : scanning text ≡ given s) (e 
   pub own-line : OwnLine text (lineIn text e)
   own-line =
       let has = sound-line text holds e h in
-      let shape = sound-shape text holds in
+      let shape = sound-outline text holds in
       rw (line-in text e) (record {
         fine = line-text (getD (linesOf text) e []) (has .read) .1;
         no-zero = has .no-zero;

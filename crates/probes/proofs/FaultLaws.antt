@@ -22,7 +22,7 @@ use Rattle.probes.proofs.TestLaws.{line-no-text, line-later, later-mixe
 
 -- ---- one line
 
--- the first rule that the line bs breaks, after lines of the shape s
+-- the first rule that the line bs breaks, after lines of the outline s
 pub data Breaks (s : Outline) (bs : List ℕ) : ℕ → Type 0 where
   no-line : isLine bs ≡ false → Breaks s bs Text
   mixed : isLine bs ≡ true → agree (s .mark) (lineMark (lineOf bs)) ≡ false → Breaks s bs Mixed

@@ -15,7 +15,7 @@ use Rattle.probes.specs.Line.{Line}
 use Rattle.probes.specs.Lines.{lineOf, linesIn}
 use Rattle.probes.specs.Testing.{lineMark, known, outlineOf, scanning, kindOf}
 use Rattle.probes.proofs.SmallLaws.{kind-pair}
-use Rattle.probes.proofs.SoundLaws.{sound-shape, sound-line}
+use Rattle.probes.proofs.SoundLaws.{sound-outline, sound-line}
 use Rattle.probes.specs.Faults.{HasMark}
 use Rattle.probes.proofs.TextLaws.{line-in, lines-many}
 
@@ -56,7 +56,7 @@ module _ (text : List ℕ) {s : Outline} (holds : scanning text ≡ given s) whe
   its-mark n has =
       let line = sound-line text holds (has .line) (has .within) in
       let own = sym (ap lineMark (line-in text (has .line))) ∙ has .marked in
-      sym (ap (λ (t : Outline). t .mark) (sound-shape text holds)) ∙ sym (line .mark (λ z. n (sym own ∙ z))) ∙ own
+      sym (ap (λ (t : Outline). t .mark) (sound-outline text holds)) ∙ sym (line .mark (λ z. n (sym own ∙ z))) ∙ own
 
   -- "with any hyphen a span card"
   pub span-marked : (kindOf (outlineOf (linesIn text) .mark) ≡ span) ↔ HasMark text span

@@ -29,7 +29,7 @@ pub record SoFar (text : List ℕ) (s : Outline) (at : ℕ) : Type 0 where
   pub within : at ≤ length text
   pub count : s .m ≤ at
   pub left : linesOf (drop at text) ≡ drop (s .m) (linesOf text)
-  pub shape : s ≡ outlineOf (take (s .m) (linesIn text))
+  pub outline : s ≡ outlineOf (take (s .m) (linesIn text))
   pub tests : first (inTurn (testsAt text) (s .m) (length (linesOf text) - s .m)) (outlineOf (linesIn text)) ≡ scanning text
 
 module _ (text : List ℕ) where
@@ -45,7 +45,7 @@ module _ (text : List ℕ) where
         within = omega arith;
         count = omega arith;
         left = refl;
-        shape = refl;
+        outline = refl;
         tests = rw whole (sym (first-pass _ _ _ _ _ (lt-ltb 0 (length text) (omega arith))));
       }
 
@@ -54,7 +54,7 @@ module _ (text : List ℕ) where
     scan-end h =
         let beyond : length (linesOf text) ≤ s .m = lines-passed text at (s .m) (so-far .left) h in
         let all : take (s .m) (linesIn text) ≡ linesIn text = take-all (s .m) (linesIn text) (omega (arith, length-map (linesOf text) lineOf)) in
-        ap given (so-far .shape ∙ ap outlineOf all)
+        ap given (so-far .outline ∙ ap outlineOf all)
         ∙ sym (turns-end (testsAt text) (length (linesOf text)) (s .m) (outlineOf (linesIn text)) beyond)
         ∙ so-far .tests
 
@@ -69,7 +69,7 @@ module _ (text : List ℕ) where
       these-tests : testsAt text (s .m) ≡ lineTests s (firstLine (drop at text))
       these-tests =
           ap (lineTests (outlineOf (take (s .m) (linesIn text)))) this
-          ∙ ap (λ (t : Outline). lineTests t (firstLine (drop at text))) (sym (so-far .shape))
+          ∙ ap (λ (t : Outline). lineTests t (firstLine (drop at text))) (sym (so-far .outline))
 
       some-left : 0 < length (drop at text)
       some-left = omega (arith, length-drop at text)
@@ -126,13 +126,13 @@ module _ (text : List ℕ) where
               ∙ take-suc (linesIn text) (s .m) (lineOf []) more-in
               ∙ ap (λ (x : Line). take (s .m) (linesIn text) ++ (x ∷ [])) this-read in
               let outlined : nextOutline s (r .what) ≡ outlineOf (take (s .m + 1) (linesIn text)) =
-              ap (λ (u : Outline). nextOutline u (r .what)) (so-far .shape)
+              ap (λ (u : Outline). nextOutline u (r .what)) (so-far .outline)
               ∙ sym (ap outlineOf taken ∙ outline-more (take (s .m) (linesIn text)) (r .what)) in
               record {
                 within = inside;
                 count = omega (arith, so-far .count, scan-rises);
                 left = rw counted after;
-                shape = is-next ∙ outlined ∙ ap (λ (n : ℕ). outlineOf (take n (linesIn text))) (sym counted);
+                outline = is-next ∙ outlined ∙ ap (λ (n : ℕ). outlineOf (take n (linesIn text))) (sym counted);
                 tests = rw counted
                     (turn-holds (testsAt text) (length (linesOf text)) (s .m) (outlineOf (linesIn text)) more own ∙ so-far .tests);
               }

@@ -88,11 +88,11 @@ pub record SoundLine (s : Outline) (bs : List ℕ) : Type 0 where
   pub no-zero : hasZero (lineOf bs .listed) ≡ false
 
 module _ (text : List ℕ) {s : Outline} (holds : scanning text ≡ given s) where
-  pub sound-shape : s ≡ outlineOf (linesIn text)
-  sound-shape = sym (first-value (textTests text) (outlineOf (linesIn text)) s holds)
+  pub sound-outline : s ≡ outlineOf (linesIn text)
+  sound-outline = sym (first-value (textTests text) (outlineOf (linesIn text)) s holds)
 
   pub sound-count : s .m ≡ length (linesOf text)
-  sound-count = ap (λ (t : Outline). t .m) sound-shape ∙ length-map (linesOf text) lineOf
+  sound-count = ap (λ (t : Outline). t .m) sound-outline ∙ length-map (linesOf text) lineOf
 
   holds-at : (e : ℕ) → e < length (linesOf text) → first (testsAt text e) sound ≡ given sound
   unfolding textTests
@@ -113,9 +113,9 @@ module _ (text : List ℕ) {s : Outline} (holds : scanning text ≡ given s) whe
       let some-letter = line-text bs (read .0) .1 .some-letter in
       record {
         read = read .0;
-        mark = λ n. rw same at (known-is lineMark (linesIn text) (lineOf []) e within (rw same (mark .0)) (rw same n)) ∙ sym (ap (λ (t : Outline). t .mark) sound-shape);
+        mark = λ n. rw same at (known-is lineMark (linesIn text) (lineOf []) e within (rw same (mark .0)) (rw same n)) ∙ sym (ap (λ (t : Outline). t .mark) sound-outline);
         letters =
             rw same at (known-is lineLetters (linesIn text) (lineOf []) e within (rw same (letters .0)) (rw same (λ z. omega arith)))
-            ∙ sym (ap (λ (t : Outline). t .l) sound-shape);
+            ∙ sym (ap (λ (t : Outline). t .l) sound-outline);
         no-zero = not-true (hasZero (lineOf bs .listed)) (no-zero .0);
       }

@@ -44,8 +44,9 @@ add-t8 c = omega (arith, two-small (c .before) .1)
 
 returns-3 : tie.Need-returns-3
 returns-3 c =
-    let start = two-start (c .before) in
-    for-two (start .args .kind) (start .args .s) (c .before .before .before .before .if1 .left) (c .before .before .if2 .left)
+    let two = c .before in
+    let start = two-start two in
+    for-two (start .args .kind) (start .args .s) (two .before .before .before .if1 .left) (two .before .if2 .left)
 
 pub listed-for-spec : {M : Type 1} → statement M
 listed-for-spec =

@@ -15,13 +15,16 @@ use borrow.Author.Needs.{needs}
 use Rattle.importing.proofs.import.Statement.{statement}
 use Rattle.importing.proofs.import.Tie as tie
 
+abbrev read : tie.After-twos2 → tie.After-scan
+read c = c .before .before .before
+
 -- the text is sound
 module _ (c : tie.After-known-told2) where
   abbrev lent-back : tie.After-twos2
   lent-back = c .before .before .before
 
   abbrev scanned : tie.After-scan
-  scanned = lent-back .before .before .before
+  scanned = read lent-back
 
   abbrev start : tie.Start
   start = scanned .before .before .before .before .before .before
@@ -106,14 +109,17 @@ array-borrow-prefix-twos c = in-twos (c .before .before)
 slice-aggregate-write-kept-3 : tie.Need-slice-aggregate-write-kept-3
 slice-aggregate-write-kept-3 c = sym (length-take-le _ _ (in-twos (c .before .before .before)))
 
+abbrev lent : tie.After-write-kept-arg → tie.Else2
+lent c = c .before .before .before .before
+
 write-kept-requires : tie.Need-write-kept-requires
 write-kept-requires c κs =
-    let sound = c .before .before .before .before in
+    let sound = lent c in
     length-take-le _ _ (in-twos sound) ∙ sym (length-take-le _ _ (in-ones sound))
 
 returns-3 : tie.Need-returns-3
 returns-3 c =
-    let scanned = c .before .before .before .before .before .before in
+    let scanned = read (c .before .before .before) in
     import-refused _ _ _ (sym (scanned .scan .ensures .0) ∙ ap saysScanned (c .before .r .given .1))
 
 same-length : tie.Need-same-length
@@ -122,7 +128,7 @@ same-length c = search needs
 returns-4 : tie.Need-returns-4
 returns-4 c =
     let wrote = c .before .before .before in
-    let sound = wrote .before .before .before .before .before in
+    let sound = lent (wrote .before) in
     let at = told sound in
     import-sound _ _ _ (holds at)
     (sound-written _ _ (holds at) (scanned at .scan .ensures .1 _ (holds at)) (in-words sound) (in-ones sound) (in-twos sound) (letters sound) (wrote .write-kept .ensures))

@@ -10,6 +10,16 @@ use borrow.Author.Needs.{needs}
 use Rattle.exporting.proofs.putting.put_both.Statement.{statement}
 use Rattle.exporting.proofs.putting.put_both.Tie as tie
 
+-- the first number and the mark, from the place where the next part is asked for
+abbrev numbered : tie.After-put-text-arg → tie.After-put-digits
+numbered c = c .before .before .before
+
+abbrev marked : tie.After-put-digits-arg2 → tie.After-put-text
+marked c = c .before .before .before
+
+abbrev begun : tie.After-put-digits → tie.Start
+begun c = c .before .before .before .before
+
 long : (c : tie.Start)
     → length (decimal (c .args .p) ++ (c .args .mark .now ++ decimal (c .args .q))) ≡ length (decimal (c .args .p)) + (length (c .args .mark .now) + length (decimal (c .args .q)))
 long c =
@@ -24,16 +34,17 @@ put-digits-requires c κs =
 
 put-text-requires : tie.Need-put-text-requires
 put-text-requires c κs =
-    let put = c .before .before .before .put-digits .ensures in
-    let start = c .before .before .before .before .before .before .before in
+    let put = numbered c .put-digits .ensures in
+    let start = begun (numbered c) in
     omega (arith, put .ends, length-put put, start .pre, long start)
 
 put-digits-requires-2 : tie.Need-put-digits-requires-2
 put-digits-requires-2 c κs =
-    let mark = c .before .before .before in
-    let put = put-then (mark .before .before .before .before .put-digits .ensures) (mark .put-text .ensures) in
-    let start = mark .before .before .before .before .before .before .before .before in
-    omega (arith, mark .put-text .ensures .ends, mark .before .before .before .before .put-digits .ensures .ends, length-put put, start .pre, long start)
+    let mark = marked c in
+    let first = numbered (mark .before) in
+    let put = put-then (first .put-digits .ensures) (mark .put-text .ensures) in
+    let start = begun first in
+    omega (arith, mark .put-text .ensures .ends, first .put-digits .ensures .ends, length-put put, start .pre, long start)
 
 same-length : tie.Need-same-length
 same-length c = search needs
@@ -41,8 +52,8 @@ same-length c = search needs
 returns : tie.Need-returns
 returns c =
     let last = c .before .before in
-    let mark = last .before .before .before .before in
-    put-then (mark .before .before .before .before .put-digits .ensures) (put-then (mark .put-text .ensures) (last .put-digits2 .ensures))
+    let mark = marked (last .before) in
+    put-then (numbered (mark .before) .put-digits .ensures) (put-then (mark .put-text .ensures) (last .put-digits2 .ensures))
 
 pub put-both-spec : {M : Type 1} → statement M
 put-both-spec =

@@ -11,6 +11,16 @@ use borrow.Author.Needs.{needs}
 use Rattle.exporting.proofs.putting.put_line.Statement.{statement}
 use Rattle.exporting.proofs.putting.put_line.Tie as tie
 
+-- each part, from the place where the next one is asked for
+abbrev worded : tie.After-put-text-arg2 → tie.After-put-word
+worded c = c .before .before .before .before
+
+abbrev tabbed : tie.After-listed-for → tie.After-put-text
+tabbed c = c .before .before .before .before
+
+abbrev listed : tie.After-put-text-arg4 → tie.After-put-listed
+listed c = c .before .before .before .before
+
 -- how long the line is
 long : (c : tie.Start)
     → length (lineText (lineFor (c .args .kind) (c .args .l) (c .args .s))) ≡ c .args .l + 2 + length (listedText (listedFor (c .args .kind) (c .args .s)))
@@ -26,7 +36,7 @@ slice-aggregate-put-text c = search needs
 
 put-text-requires : tie.Need-put-text-requires
 put-text-requires c κs =
-    let word = c .before .before .before .before in
+    let word = worded c in
     let put = word .put-word .ensures in
     let start = word .before .before .before in
     omega (arith, put .ends, length-put put, word-long (start .args .l) (start .args .s .word), start .pre .1, long start)
@@ -36,8 +46,8 @@ listed-for-requires c κs = search needs
 
 put-listed-requires : tie.Need-put-listed-requires
 put-listed-requires c κs =
-    let tab = c .before .before .before .before in
-    let word = tab .before .before .before .before .before in
+    let tab = tabbed c in
+    let word = worded (tab .before) in
     let start = word .before .before .before in
     let put = put-then (word .put-word .ensures) (tab .put-text .ensures) in
     omega (
@@ -56,18 +66,18 @@ slice-aggregate-put-text-2 c = search needs
 
 put-text-requires-2 : tie.Need-put-text-requires-2
 put-text-requires-2 c κs =
-    let listed = c .before .before .before .before in
-    let tab = listed .before .before .before .before .before in
-    let word = tab .before .before .before .before .before in
+    let list = listed c in
+    let tab = tabbed (list .before) in
+    let word = worded (tab .before) in
     let start = word .before .before .before in
-    let put = put-then (word .put-word .ensures) (put-then (tab .put-text .ensures) (listed .put-listed .ensures)) in
+    let put = put-then (word .put-word .ensures) (put-then (tab .put-text .ensures) (list .put-listed .ensures)) in
     omega (
       arith,
-      listed .put-listed .ensures .ends,
+      list .put-listed .ensures .ends,
       tab .put-text .ensures .ends,
       word .put-word .ensures .ends,
       length-put put,
-      ap (λ y. length (listedText y)) (listed .before .listed-for .ensures),
+      ap (λ y. length (listedText y)) (list .before .listed-for .ensures),
       word-long (start .args .l) (start .args .s .word),
       start .pre .1,
       long start,
@@ -79,12 +89,12 @@ same-length c = search needs
 returns : tie.Need-returns
 returns c =
     let last = c .before .before in
-    let listed = last .before .before .before .before .before in
-    let tab = listed .before .before .before .before .before in
-    let word = tab .before .before .before .before .before in
+    let list = listed (last .before) in
+    let tab = tabbed (list .before) in
+    let word = worded (tab .before) in
     let start = word .before .before .before in
-    line-put (start .args .kind) (start .args .l) (start .args .s) (word .put-word .ensures) (tab .put-text .ensures) (listed .before .listed-for .ensures)
-    (listed .put-listed .ensures) (last .put-text2 .ensures)
+    line-put (start .args .kind) (start .args .l) (start .args .s) (word .put-word .ensures) (tab .put-text .ensures) (list .before .listed-for .ensures)
+    (list .put-listed .ensures) (last .put-text2 .ensures)
 
 pub put-line-spec : {M : Type 1} → statement M
 put-line-spec =

@@ -13,14 +13,17 @@ Inv-loop ones twos₀ n e₀ twos e = Closed ones twos₀ e twos
 abbrev μ-loop : tie.MeasureT-loop
 μ-loop ones twos₀ n e₀ twos e = n - e
 
+abbrev started : tie.At-loop Inv-loop μ-loop → tie.Start Inv-loop μ-loop
+started c = c .before .before .before
+
 abbrev turned : tie.After-last-of Inv-loop μ-loop → tie.In-loop Inv-loop μ-loop
 turned c = c .before .before .before
 
 -- the slot is there
 inside : (c : tie.In-loop Inv-loop μ-loop)
-    → (c .before .loop .e < length (c .before .loop .twos)) × (c .before .loop .e < length (c .before .before .before .before .args .ones .now))
+    → (c .before .loop .e < length (c .before .loop .twos)) × (c .before .loop .e < length (started (c .before) .args .ones .now))
 inside c =
-    let start = c .before .before .before .before in
+    let start = started (c .before) in
     let long = so-far-length (start .pre) (c .before .loop .inv) in
     (omega (arith, c .loop-test .taken), omega (arith, c .loop-test .taken, start .pre))
 
@@ -60,10 +63,10 @@ loop-again c =
     closed-turn (at .before .before .before .pre) (at .loop .inv) (omega (arith, turned c .loop-test .taken)) (c .last-of .ensures)
 
 same-length : tie.Need-same-length Inv-loop μ-loop
-same-length c = so-far-length (c .before .before .before .before .pre) (c .before .loop .inv)
+same-length c = so-far-length (started (c .before) .pre) (c .before .loop .inv)
 
 returns : tie.Need-returns Inv-loop μ-loop
-returns c = closed-all (c .before .before .before .before .pre) (c .before .loop .inv) (c .loop-test .left)
+returns c = closed-all (started (c .before) .pre) (c .before .loop .inv) (c .loop-test .left)
 
 pub close-spec : {M : Type 1} → statement M
 close-spec =

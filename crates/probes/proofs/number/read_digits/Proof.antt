@@ -1,7 +1,8 @@
 -- `read_digits` meets its contract. The invariant: the digits that are left read as all do. What falls is how many are left. Assumes nothing.
 use mathlib.Core.Path.{_≡_, refl, _∙_}
 use mathlib.Core.Bool.{true}
-use Prim.Native.Nat.{_-_, _≤_}
+use mathlib.Core.List.{List}
+use Prim.Native.Nat.{ℕ, _-_, _≤_}
 use native.Mathlib.Omega.{arith}
 use lib.ListN.{drop, getD}
 use Rattle.answers.proofs.Tests.{failed, passed}
@@ -24,11 +25,14 @@ module _ (c : tie.After-shared-slice-known3 Inv-loop μ-loop) where
   abbrev turn-of : tie.In-loop Inv-loop μ-loop
   turn-of = c .before .before .before .before
 
-  digit : isDigit (getD (c .before .before .before .before .before .before .before .args .text .now) (turn-of .before .loop .i) 0) ≡ true
+  abbrev text : List ℕ
+  text = turn-of .before .before .before .args .text .now
+
+  digit : isDigit (getD text (turn-of .before .loop .i) 0) ≡ true
   digit = passed (c .before .before .is-digit .ensures) (c .before .if1 .left)
 
-  ends : (digit0 ≤ getD (c .before .before .before .before .before .before .before .args .text .now) (turn-of .before .loop .i) 0)
-      × (getD (c .before .before .before .before .before .before .before .args .text .now) (turn-of .before .loop .i) 0 ≤ digit9)
+  ends : (digit0 ≤ getD text (turn-of .before .loop .i) 0)
+      × (getD text (turn-of .before .loop .i) 0 ≤ digit9)
   ends = digit-is _ digit
 
 loop-holds : tie.Need-loop-holds Inv-loop μ-loop
@@ -50,7 +54,7 @@ cast-w : tie.Need-cast-w Inv-loop μ-loop
 cast-w c = search needs
 
 mul-w : tie.Need-mul-w Inv-loop μ-loop
-mul-w c = omega (arith, c .before .before .before .before .loop .inv .2)
+mul-w c = let turn = c .before .before .before in omega (arith, turn .before .loop .inv .2)
 
 shared-slice-read-w : tie.Need-shared-slice-read-w Inv-loop μ-loop
 shared-slice-read-w c = search needs

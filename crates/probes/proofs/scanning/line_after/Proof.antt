@@ -9,21 +9,24 @@ use borrow.Author.Needs.{needs}
 use Rattle.probes.proofs.scanning.line_after.Statement.{statement}
 use Rattle.probes.proofs.scanning.line_after.Tie as tie
 
+abbrev start : tie.After-agrees → tie.Start
+start c = c .before .before .before
+
 -- the mark of the line, and of the lines before it
 same-mark : (c : tie.After-agrees)
-    → agree (c .before .before .before .args .s .mark) (markOf (c .before .before .before .args .t .listed))
-    ≡ agree (c .before .before .before .args .s .mark) (c .before .mark-of .result)
-same-mark c = ap (agree (c .before .before .before .args .s .mark)) (sym (c .before .mark-of .ensures))
+    → agree (start c .args .s .mark) (markOf (start c .args .t .listed))
+    ≡ agree (start c .args .s .mark) (c .before .mark-of .result)
+same-mark c = ap (agree (start c .args .s .mark)) (sym (c .before .mark-of .ensures))
 
 marks : (c : tie.Else1)
-    → agree (c .before .before .before .before .args .s .mark) (markOf (c .before .before .before .before .args .t .listed)) ≡ true
+    → agree (start (c .before) .args .s .mark) (markOf (start (c .before) .args .t .listed)) ≡ true
 marks c = same-mark (c .before) ∙ passed (c .before .agrees .ensures) (c .if1 .left)
 
 -- its letters
 abbrev marked : tie.Else2 → tie.Else1
 marked c = c .before .before
 
-evens : (c : tie.Else2) → agree (marked c .before .before .before .before .args .s .l) (marked c .before .before .before .before .args .t .letters) ≡ true
+evens : (c : tie.Else2) → agree (start (marked c .before) .args .s .l) (start (marked c .before) .args .t .letters) ≡ true
 evens c = passed (c .before .agrees2 .ensures) (c .if2 .left)
 
 add-line : tie.Need-add-line
@@ -58,15 +61,13 @@ first-known-requires c κs = search needs
 first-known-requires-2 : tie.Need-first-known-requires-2
 first-known-requires-2 c κs = search needs
 
-abbrev start : tie.After-first-known2 → tie.Start
-start c = marked (c .before .before .before .before) .before .before .before .before
-
 returns-4 : tie.Need-returns-4
 returns-4 c =
     let zero = c .before .before in
     let even = zero .before .before in
     let mark = marked even .before .before in
-    ap given (outline-after (start c .args .s) (start c .args .t .letters) (start c .args .t .listed) (mark .mark-of .ensures) (c .before .first-known .ensures) (c .first-known2 .ensures))
+    let begin = start (marked even .before) in
+    ap given (outline-after (begin .args .s) (begin .args .t .letters) (begin .args .t .listed) (mark .mark-of .ensures) (c .before .first-known .ensures) (c .first-known2 .ensures))
     ∙ sym (later-sound _ _ _ _ (marks (marked even)) (evens even) (sym (zero .before .has-zero .ensures) ∙ zero .if3 .left))
 
 pub line-after-spec : {M : Type 1} → statement M

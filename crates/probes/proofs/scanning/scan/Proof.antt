@@ -56,13 +56,16 @@ module _ (c : tie.After-keep-arg3 Inv-loop μ-loop) where
   abbrev after : tie.After-line-after Inv-loop μ-loop
   after = c .before .before .before .before .before .before
 
+  abbrev held : tie.After-next Inv-loop μ-loop
+  held = c .before .before .before .before
+
   abbrev sound : tie.After-known-told Inv-loop μ-loop
   sound = after .before
 
   tested : first (saidTests (turn-of sound .before .loop .s) (probe sound .letters) (probe sound .listed))
       (outlineAfter (turn-of sound .before .loop .s) (probe sound .letters) (probe sound .listed))
-      ≡ given (c .before .before .before .before .next .given .0 .0)
-  tested = sym (after .line-after .ensures) ∙ ap saysScanned (c .before .before .before .before .next .given .1)
+      ≡ given (held .next .given .0 .0)
+  tested = sym (after .line-after .ensures) ∙ ap saysScanned (held .next .given .1)
 
 returns : tie.Need-returns Inv-loop μ-loop
 returns c = let said = scan-empty _ (c .if1 .taken) in (said, none-kept _ _ _ _ said)
@@ -81,17 +84,20 @@ enum-known-t c = search needs
 enum-told : tie.Need-enum-told Inv-loop μ-loop
 enum-told c = search needs
 
+abbrev unread : tie.After-struct-known Inv-loop μ-loop → tie.In-loop Inv-loop μ-loop
+unread c = c .before .before .before .before
+
 add-t16 : tie.Need-add-t16 Inv-loop μ-loop
-add-t16 c = let turn = c .before .before .before .before in omega (arith, turn .before .loop .inv .so-far .count, turn .loop-test .taken)
+add-t16 c = let turn = unread c in omega (arith, turn .before .loop .inv .so-far .count, turn .loop-test .taken)
 
 same-length : tie.Need-same-length Inv-loop μ-loop
-same-length c = let at = c .before .before .before .before .before in at .loop .inv .words-long
+same-length c = unread c .before .loop .inv .words-long
 
 same-length-2 : tie.Need-same-length-2 Inv-loop μ-loop
-same-length-2 c = let at = c .before .before .before .before .before in long at .0
+same-length-2 c = long (unread c .before) .0
 
 same-length-3 : tie.Need-same-length-3 Inv-loop μ-loop
-same-length-3 c = let at = c .before .before .before .before .before in long at .1
+same-length-3 c = long (unread c .before) .1
 
 returns-2 : tie.Need-returns-2 Inv-loop μ-loop
 returns-2 c =
