@@ -5,14 +5,14 @@
 # make bench      times the compiled library beside the second implementation
 # make soak       compares them on COUNT random calls, by default 10000000; SEED=N for other calls
 # make vectors    writes the stored vectors and calls anew from the second implementation
-# make samples    lays the sample cards and lists out anew from their tables
+# make samples    lays the sample cards, lists and records out anew from their tables
 export CARGO_TARGET_DIR := $(CURDIR)/target/cargo
 export CARGO_NET_OFFLINE := true
 export BELFRYMIST_LIB := $(CURDIR)/target/archive
 export BELFRYMIST_BUILD := $(CURDIR)/target/bin/build
 export BELFRYMIST_REPORT := $(CURDIR)/target/cargo/release/report
 
-PROGRAMS := build settle count_builds list2card card2list
+PROGRAMS := build settle count_builds list2card card2list card2fasta
 PREFIX ?= /usr/local
 CARD ?= samples/s1.card
 COUNT ?= 10000000

@@ -1,5 +1,5 @@
-/* Spectrum cards: admitting, reading and writing them, building the sequence, settling narrow cards, counting builds, and probe lists.
- * For firmware, in C99 and in C++.
+/* Spectrum cards: admitting, reading and writing them, building the sequence, settling narrow cards, counting builds, and probe lists; and FASTA
+ * records. For firmware, in C99 and in C++.
  *
  * Link libfirmware.a, which `tests/archive FOLDER` writes for x86-64. Each function is proved to meet its contract, which stands over
  * the function of the same name in crates/firmware/src/. This file says the same in words; where the two differ, the contract is right.
@@ -12,11 +12,11 @@
  *   - a pointer and the length after it are one run of elements that are all there. Lengths count elements, not bytes;
  *   - with length 0 nothing is read or written through the pointer. It may be null: tried on the compiled library, not proved;
  *   - a pointer is aligned for its elements: 4 for uint32_t, 2 for uint16_t, any for bytes;
- *   - an output may be written, has a value in each byte before the call, and overlaps no card, no list and no other output;
- *   - during the call nothing else writes the card or the lists, and nothing else reads or writes the output;
+ *   - an output may be written, has a value in each byte before the call, and overlaps nothing else that the call is lent;
+ *   - during the call nothing else writes what the call is lent, and nothing else reads or writes an output;
  *   - there is stack: see BELFRYMIST_STACK.
- * A card or a list is only read. Nothing is kept from call to call and no memory is asked for, so that calls may run side by side in
- * threads, each with its own output. From outside the library needs memcpy and memset at most.
+ * What is no output is only read. Nothing is kept from call to call and no memory is asked for, so that calls may run side by side in
+ * threads, each with its own outputs. From outside the library needs memcpy and memset at most.
  */
 #ifndef BELFRYMIST_H
 #define BELFRYMIST_H
@@ -43,15 +43,22 @@ enum {
     BELFRYMIST_NO_SECOND_PLACE = 65535  /* place two of an entry that has one place, on a pair card */
 };
 
-/* Bytes of stack that a call takes at most: measured on x86-64 over the samples and the largest cards of both kinds, and not proved. Building
- * takes about 61,000 bytes on a pair card, and on a span card about 28,300 and 320 more for each entry that it places. Settling takes as much
- * for a small card as for a full one. */
+/* The numbers of a FASTA record. */
+enum {
+    BELFRYMIST_MOST_NAME = 40,          /* bytes of the longest name */
+    BELFRYMIST_LINE_LETTERS = 60,       /* letters of each line but the last, which has from 1 to so many */
+    BELFRYMIST_MOST_RECORD = 566        /* room for the record of every build, whatever its name */
+};
+
+/* Bytes of stack that a call takes at most: measured on x86-64 over the samples, the largest cards of both kinds and the longest record of a build,
+ * and not proved. Building takes about 61,000 bytes on a pair card, and on a span card about 28,300 and 320 more for each entry that it places.
+ * Settling takes as much for a small card as for a full one. */
 enum {
     BELFRYMIST_STACK = 196608,          /* belfrymist_build */
     BELFRYMIST_STACK_SETTLING = 90112,  /* belfrymist_settle and belfrymist_settle_lists */
     BELFRYMIST_STACK_COUNTING = 40960,  /* belfrymist_count and belfrymist_count_lists */
     BELFRYMIST_STACK_IMPORTING = 5120,  /* belfrymist_import */
-    BELFRYMIST_STACK_READING = 512      /* any other call, belfrymist_write and belfrymist_export among them */
+    BELFRYMIST_STACK_READING = 512      /* any other call, those that write a card, a list or a record among them */
 };
 
 /* The kinds of card. */
@@ -74,7 +81,8 @@ enum {
     BELFRYMIST_UNSETTLED = 4     /* the budget ended the walk: nothing is known of what fits. It is not "none" */
 };
 
-/* The refusals. Places are blocks or entries, both counted from 0 over the whole card; from 23 to 26 lines of a list, counted from 1. */
+/* The refusals. Places are blocks or entries, both counted from 0 over the whole card; of 21 a number of letters; from 23 to 26 lines of a list,
+ * counted from 1. */
 enum {
     BELFRYMIST_REFUSED_SHORT = 1,        /* the card has fewer than 512 bytes; place 0 */
     BELFRYMIST_REFUSED_CHECK = 2,        /* a check byte of a block differs; the block */
@@ -88,9 +96,14 @@ enum {
     BELFRYMIST_REFUSED_SIZE = 9,         /* the card's bytes are not 512 * (1 + ceil(m / 63)); place 0 */
     BELFRYMIST_REFUSED_WORD = 10,        /* a word is 4^l or more; the entry */
     BELFRYMIST_REFUSED_PLACES = 11,      /* places out of order, beyond m - 1, or a span over 8 wide; the entry */
-    BELFRYMIST_REFUSED_ROOM = 12,        /* the output is too short; place 0 */
+    BELFRYMIST_REFUSED_ROOM = 12,        /* an output is too short; place 0 */
     BELFRYMIST_REFUSED_LISTS = 13,       /* the three lists differ in length; place 0 */
     BELFRYMIST_REFUSED_ABSENT = 14,      /* there is no such block or entry; place 0 */
+    BELFRYMIST_REFUSED_NAME = 20,        /* no name of 1 to 40 bytes, each from 33 to 126; in a record also no `>` before it or no newline after
+                                            it; place 0 */
+    BELFRYMIST_REFUSED_LETTER = 21,      /* a byte that is none of A, C, G and T, nor in a record a newline; the letters before it. Or no letter
+                                            at all; place 0 */
+    BELFRYMIST_REFUSED_LINE = 22,        /* in a record, a newline is missing or stands elsewhere than the lines have it; place 0 */
     BELFRYMIST_REFUSED_TEXT = 23,        /* what stands on a line is no word, tab, places and newline, or the list is empty; the line */
     BELFRYMIST_REFUSED_MIXED = 24,       /* a line's mark, comma or hyphen, is not that of an earlier line; the line */
     BELFRYMIST_REFUSED_UNEVEN = 25,      /* a word has not as many letters as the first; the line */
@@ -129,8 +142,14 @@ typedef struct {
 
 typedef struct {
     size_t number, place;
-    size_t length; /* bytes of the card that was written; from belfrymist_export, of the list */
+    size_t length; /* bytes of the card that was written; from belfrymist_export, of the list; from belfrymist_write_fasta, of the record */
 } belfrymist_write_answer;
+
+typedef struct {
+    size_t number, place;
+    size_t name;    /* bytes of the name */
+    size_t letters; /* how many there are */
+} belfrymist_fasta_answer;
 
 typedef struct {
     size_t number, place;
@@ -230,6 +249,26 @@ belfrymist_write_answer belfrymist_import(const uint8_t *list, size_t list_len, 
  * for every list.
  * Refuses: the reader's refusals, then 12 where out has fewer bytes than the list. */
 belfrymist_write_answer belfrymist_export(const uint8_t *card, size_t card_len, uint8_t *out, size_t out_len);
+
+/* Writes the FASTA record of a name and letters: `>`, the name, a newline, then the letters in lines of 60, the last one shorter or full, each ended
+ * by a newline. A name is 1 to 40 printable ASCII characters without spaces; letters are the capitals A, C, G and T, 1 or more of them, as
+ * belfrymist_build gives them.
+ * The record stands at the start of out, `length` bytes of it, with no zero after it; later bytes are untouched. It has
+ * name_len + letters_len + ceil(letters_len / 60) + 2 bytes. BELFRYMIST_MOST_RECORD bytes are room for the record of every build.
+ * Refuses, the first of these that holds: 20; 21 with the number of letters before the first byte that is none, and at 0 where letters_len is 0;
+ * 12 where out has fewer bytes than the record. */
+belfrymist_write_answer belfrymist_write_fasta(const uint8_t *name, size_t name_len, const uint8_t *letters, size_t letters_len, uint8_t *out,
+                                               size_t out_len);
+
+/* Reads a FASTA record, laid out as belfrymist_write_fasta does it and in no other way. The name stands at the start of name_out, `name` bytes of it,
+ * and the letters, without their line ends, at the start of letters_out, `letters` of them, with no zero after either; later bytes are untouched.
+ * BELFRYMIST_MOST_NAME bytes are room for every name, and record_len bytes for the letters.
+ * Refuses, the first of these that holds of the whole record: 20 where it does not begin with `>`, a name and a newline; 21 where a byte after that
+ * is neither a letter nor a newline, with the number of letters before it, and at 0 where there is no letter; 22 where the lines are not those that
+ * belfrymist_write_fasta makes of the letters; 12 where name_out or letters_out is too short. All of record_len is the record: a second record after
+ * it is 21, and an empty line after it 22. A carriage return is 20 in the name's line and 21 later; a small letter is 21. */
+belfrymist_fasta_answer belfrymist_read_fasta(const uint8_t *record, size_t record_len, uint8_t *name_out, size_t name_out_len,
+                                              uint8_t *letters_out, size_t letters_out_len);
 
 #ifdef __cplusplus
 }

@@ -1,11 +1,11 @@
 #!/usr/bin/env python3
-"""Lays out the sample cards and lists.
+"""Lays out the sample cards, lists and records.
 
-make.py FOLDER writes FOLDER/NAME.card for each card of cards.txt and FOLDER/NAME.list for each list of lists.txt, the texts beside this
-script that say which there are.
+make.py FOLDER writes FOLDER/NAME.card for each card of cards.txt, FOLDER/NAME.list for each list of lists.txt and FOLDER/NAME.fasta for each
+record of records.txt, the texts beside this script that say which there are.
 
-The layout is read off the scope document and request 2 once more: nothing of it is shared with the proved code or with second/. No rule is
-tested here, so that a card or a list that is to be refused is laid out as it is written.
+The layout is read off the scope document and requests 1 and 2 once more: nothing of it is shared with the proved code or with second/. No rule
+is tested here, so that a card or a list that is to be refused is laid out as it is written.
 """
 import pathlib
 import re
@@ -19,6 +19,7 @@ KINDS = {"{": 1, "[": 2}
 MARKS = {1: ",", 2: "-"}
 NO_SECOND_PLACE = 65535
 LETTERS = "ACGT"
+LETTERS_OF_A_LINE = 60
 ENTRY = re.compile(r"([ACGT]+)(?:\{(\d+)(?:,(\d+))?\}|\[(\d+),(\d+)\])")
 
 
@@ -68,11 +69,16 @@ def of_table(text):
     return KINDS[kinds.pop()], lengths.pop(), entries
 
 
+def target_of(text):
+    """The letters of a target, after `target L BEFORE AFTER`."""
+    return "".join(text.split()[4:])
+
+
 def of_target(text):
-    """The same of `target L BEFORE AFTER` and a target's letters: a span card, each word of L letters with its place in the target and as
-    many places before and after it, as far as the card has them; listed alphabetically."""
+    """Kind, l and entries of `target L BEFORE AFTER` and a target's letters: a span card, each word of L letters with its place in the target
+    and as many places before and after it, as far as the card has them; listed alphabetically."""
     l, before, after = map(int, text.split()[1:4])
-    target = "".join(text.split()[4:])
+    target = target_of(text)
     m = len(target) - l + 1
     entries = [(target[i : i + l], max(0, i - before), min(m - 1, i + after)) for i in range(m)]
     return KINDS["["], l, sorted(entries)
@@ -88,18 +94,29 @@ def listed(kind, entries, first=1, bare=False):
     return "".join(lines).encode()
 
 
+def record(name, letters):
+    """The bytes of a FASTA record."""
+    starts = range(0, len(letters), LETTERS_OF_A_LINE)
+    return "".join([f">{name}\n", *(letters[start : start + LETTERS_OF_A_LINE] + "\n" for start in starts)]).encode()
+
+
 def without_notes(text):
     """The text without the lines that say something, which begin with `#`."""
     return "\n".join(line for line in text.splitlines() if not line.startswith("#"))
 
 
-def tables(text):
-    """Kind, l and entries of each card by its name, from a text that has `NAME:` on a line before each table."""
+def texts(text):
+    """Each table, as text, by its name, from a text that has `NAME:` on a line before each."""
     parts = re.split(r"^([a-z0-9-]+):$", without_notes(text), flags=re.MULTILINE)
     assert not parts[0].strip(), parts[0]
+    return dict(zip(parts[1::2], parts[2::2]))
+
+
+def tables(text):
+    """Kind, l and entries of each card by its name, from a text such as cards.txt."""
     return {
         name: (of_target if table.split()[0] == "target" else of_table)(table)
-        for name, table in zip(parts[1::2], parts[2::2])
+        for name, table in texts(text).items()
     }
 
 
@@ -113,15 +130,27 @@ def lists(text, cards):
             yield name, listed(kind, entries, int(first), bool(bare))
 
 
+def records(text, cards_text):
+    """Each record's name, its card's and its letters, from a text with a line `NAME: CARD LETTERS` for each, or `NAME: CARD target` where they are
+    the card's target."""
+    for line in without_notes(text).split("\n"):
+        if line:
+            name, card_name, letters = line.replace(":", "", 1).split()
+            yield name, card_name, target_of(texts(cards_text)[card_name]) if letters == "target" else letters
+
+
 def main():
     if len(sys.argv) != 2:
         sys.exit("usage: make.py FOLDER")
     folder, beside = pathlib.Path(sys.argv[1]), pathlib.Path(__file__).parent
-    cards = tables((beside / "cards.txt").read_text())
+    cards_text = (beside / "cards.txt").read_text()
+    cards = tables(cards_text)
     for name, said in cards.items():
         (folder / f"{name}.card").write_bytes(card(*said))
     for name, stored in lists((beside / "lists.txt").read_text(), cards):
         (folder / f"{name}.list").write_bytes(stored)
+    for name, _, letters in records((beside / "records.txt").read_text(), cards_text):
+        (folder / f"{name}.fasta").write_bytes(record(name, letters))
 
 
 if __name__ == "__main__":

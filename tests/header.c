@@ -1,5 +1,6 @@
 /* header FOLDER: calls every function of include/belfrymist.h through it, on the cards S1, P1, P4, S5, one-wider and neighbours-span of FOLDER,
- * and looks at each answer and at every byte of each output. What is expected is stated here, from the scope document and requests 2, 11 and 12. */
+ * and looks at each answer and at every byte of each output. What is expected is stated here, from the scope document and requests 1, 2, 11 and
+ * 12. */
 #include <stdio.h>
 #include <stdlib.h>
 #include <string.h>
@@ -16,6 +17,7 @@ FIELDS(belfrymist_part_answer, 2);
 FIELDS(belfrymist_write_answer, 3);
 FIELDS(belfrymist_build_answer, 5);
 FIELDS(belfrymist_count_answer, 4);
+FIELDS(belfrymist_fasta_answer, 4);
 
 enum { CARD = 1024, GUARD = 64, UNTOUCHED = 0xA5 };
 
@@ -230,8 +232,8 @@ static void counting(const uint8_t *s1, const uint8_t *p1, const uint8_t *p4)
             0);
 }
 
-/* A text as a list, without the zero at its end. */
-#define LIST(text) (const uint8_t *)(text), sizeof(text) - 1
+/* A text as bytes and their number, without the zero at its end. */
+#define TEXT(text) (const uint8_t *)(text), sizeof(text) - 1
 
 static void importing(const uint8_t *p1, const uint8_t *neighbours)
 {
@@ -242,30 +244,30 @@ static void importing(const uint8_t *p1, const uint8_t *neighbours)
     memset(out, UNTOUCHED, sizeof out);
     ANSWERS(belfrymist_write_answer, belfrymist_import(NULL, 0, out, CARD), BELFRYMIST_REFUSED_TEXT, 1, 0);
     ANSWERS(belfrymist_write_answer, belfrymist_import(NULL, 0, NULL, 0), BELFRYMIST_REFUSED_TEXT, 1, 0);
-    ANSWERS(belfrymist_write_answer, belfrymist_import(LIST("AC\t1"), out, CARD), BELFRYMIST_REFUSED_TEXT, 1, 0);
-    ANSWERS(belfrymist_write_answer, belfrymist_import(LIST("AC\t1\r\n"), out, CARD), BELFRYMIST_REFUSED_TEXT, 1, 0);
-    ANSWERS(belfrymist_write_answer, belfrymist_import(LIST("AC\t1\nCA\t65536\n"), out, CARD), BELFRYMIST_REFUSED_TEXT, 2, 0);
-    ANSWERS(belfrymist_write_answer, belfrymist_import(LIST("AC\t1,2\nACA\t0-1\n"), out, CARD), BELFRYMIST_REFUSED_MIXED, 2, 0);
-    ANSWERS(belfrymist_write_answer, belfrymist_import(LIST("AC\t1,2\nACA\t0,1\n"), out, CARD), BELFRYMIST_REFUSED_UNEVEN, 2, 0);
-    ANSWERS(belfrymist_write_answer, belfrymist_import(LIST("AC\t1,2\nCA\t0,1\n"), out, CARD), BELFRYMIST_REFUSED_ZERO, 2, 0);
+    ANSWERS(belfrymist_write_answer, belfrymist_import(TEXT("AC\t1"), out, CARD), BELFRYMIST_REFUSED_TEXT, 1, 0);
+    ANSWERS(belfrymist_write_answer, belfrymist_import(TEXT("AC\t1\r\n"), out, CARD), BELFRYMIST_REFUSED_TEXT, 1, 0);
+    ANSWERS(belfrymist_write_answer, belfrymist_import(TEXT("AC\t1\nCA\t65536\n"), out, CARD), BELFRYMIST_REFUSED_TEXT, 2, 0);
+    ANSWERS(belfrymist_write_answer, belfrymist_import(TEXT("AC\t1,2\nACA\t0-1\n"), out, CARD), BELFRYMIST_REFUSED_MIXED, 2, 0);
+    ANSWERS(belfrymist_write_answer, belfrymist_import(TEXT("AC\t1,2\nACA\t0,1\n"), out, CARD), BELFRYMIST_REFUSED_UNEVEN, 2, 0);
+    ANSWERS(belfrymist_write_answer, belfrymist_import(TEXT("AC\t1,2\nCA\t0,1\n"), out, CARD), BELFRYMIST_REFUSED_ZERO, 2, 0);
     /* The card's rules carry the card's places; 12 comes last. */
-    ANSWERS(belfrymist_write_answer, belfrymist_import(LIST("A\t0\n"), out, 0), BELFRYMIST_REFUSED_ZERO, 1, 0);
-    ANSWERS(belfrymist_write_answer, belfrymist_import(LIST("A\t9\n"), out, 0), BELFRYMIST_REFUSED_WORD_LENGTH, 0, 0);
-    ANSWERS(belfrymist_write_answer, belfrymist_import(LIST("AAAAAAAAAAAAA\t1\n"), out, CARD), BELFRYMIST_REFUSED_WORD_LENGTH, 0, 0);
-    ANSWERS(belfrymist_write_answer, belfrymist_import(LIST("AC\t1\nCA\t3\n"), NULL, 0), BELFRYMIST_REFUSED_PLACES, 1, 0);
-    ANSWERS(belfrymist_write_answer, belfrymist_import(LIST("AC\t65535\n"), out, CARD), BELFRYMIST_REFUSED_PLACES, 0, 0);
-    ANSWERS(belfrymist_write_answer, belfrymist_import(LIST("AC\t1\n"), out, CARD - 1), BELFRYMIST_REFUSED_ROOM, 0, 0);
-    ANSWERS(belfrymist_write_answer, belfrymist_import(LIST("AC\t1\n"), NULL, 0), BELFRYMIST_REFUSED_ROOM, 0, 0);
+    ANSWERS(belfrymist_write_answer, belfrymist_import(TEXT("A\t0\n"), out, 0), BELFRYMIST_REFUSED_ZERO, 1, 0);
+    ANSWERS(belfrymist_write_answer, belfrymist_import(TEXT("A\t9\n"), out, 0), BELFRYMIST_REFUSED_WORD_LENGTH, 0, 0);
+    ANSWERS(belfrymist_write_answer, belfrymist_import(TEXT("AAAAAAAAAAAAA\t1\n"), out, CARD), BELFRYMIST_REFUSED_WORD_LENGTH, 0, 0);
+    ANSWERS(belfrymist_write_answer, belfrymist_import(TEXT("AC\t1\nCA\t3\n"), NULL, 0), BELFRYMIST_REFUSED_PLACES, 1, 0);
+    ANSWERS(belfrymist_write_answer, belfrymist_import(TEXT("AC\t65535\n"), out, CARD), BELFRYMIST_REFUSED_PLACES, 0, 0);
+    ANSWERS(belfrymist_write_answer, belfrymist_import(TEXT("AC\t1\n"), out, CARD - 1), BELFRYMIST_REFUSED_ROOM, 0, 0);
+    ANSWERS(belfrymist_write_answer, belfrymist_import(TEXT("AC\t1\n"), NULL, 0), BELFRYMIST_REFUSED_ROOM, 0, 0);
     WANT(untouched(out, 0, sizeof out));
 
-    ANSWERS(belfrymist_write_answer, belfrymist_import(LIST("AC\t1,3\nCA\t2,4\nAG\t1,3\nGA\t2,4\n"), out, CARD), 0, 0, CARD);
+    ANSWERS(belfrymist_write_answer, belfrymist_import(TEXT("AC\t1,3\nCA\t2,4\nAG\t1,3\nGA\t2,4\n"), out, CARD), 0, 0, CARD);
     WANT(memcmp(out, p1, CARD) == 0 && untouched(out, CARD, sizeof out));
     /* A number alone on a span list, and on a pair list. */
     memset(out, UNTOUCHED, sizeof out);
-    ANSWERS(belfrymist_write_answer, belfrymist_import(LIST("GAT\t1\nATT\t2-3\nTTA\t2-3\nTAC\t4-5\nACA\t4-5\n"), out, sizeof out), 0, 0, CARD);
+    ANSWERS(belfrymist_write_answer, belfrymist_import(TEXT("GAT\t1\nATT\t2-3\nTTA\t2-3\nTAC\t4-5\nACA\t4-5\n"), out, sizeof out), 0, 0, CARD);
     WANT(memcmp(out, neighbours, CARD) == 0 && untouched(out, CARD, sizeof out));
     ANSWERS(belfrymist_write_answer, belfrymist_write(BELFRYMIST_PAIR, 2, words, 2, ones, 2, twos, 2, written, CARD), 0, 0, CARD);
-    ANSWERS(belfrymist_write_answer, belfrymist_import(LIST("AA\t1,2\nAA\t1\n"), out, CARD), 0, 0, CARD);
+    ANSWERS(belfrymist_write_answer, belfrymist_import(TEXT("AA\t1,2\nAA\t1\n"), out, CARD), 0, 0, CARD);
     WANT(memcmp(out, written, CARD) == 0);
 }
 
@@ -289,6 +291,87 @@ static void exporting(const uint8_t *p1, const uint8_t *neighbours)
     WANT(memcmp(out, of_neighbours, NEIGHBOURS) == 0 && untouched(out, NEIGHBOURS, sizeof out));
 }
 
+#define TEN "ACGTACGTAC"
+#define SIXTY TEN TEN TEN TEN TEN TEN
+#define FORTY "0123456789-abcdefghijklmnopqrstuvwxyz~!>"
+
+static void writing_records(void)
+{
+    static const char named[] = ">" FORTY "\nGATTACA\n", sixty[] = ">n\n" SIXTY "\n", more[] = ">n\n" SIXTY "\nT\n";
+    enum { NAMED = sizeof named - 1, SIXTY_LONG = sizeof sixty - 1, MORE = sizeof more - 1 };
+    uint8_t out[NAMED + MORE + GUARD];
+
+    memset(out, UNTOUCHED, sizeof out);
+    ANSWERS(belfrymist_write_answer, belfrymist_write_fasta(NULL, 0, TEXT("GATTACA"), out, sizeof out), BELFRYMIST_REFUSED_NAME, 0, 0);
+    ANSWERS(belfrymist_write_answer, belfrymist_write_fasta(NULL, 0, NULL, 0, NULL, 0), BELFRYMIST_REFUSED_NAME, 0, 0);
+    ANSWERS(belfrymist_write_answer, belfrymist_write_fasta(TEXT(FORTY "a"), TEXT("GATTACA"), out, sizeof out), BELFRYMIST_REFUSED_NAME, 0, 0);
+    ANSWERS(belfrymist_write_answer, belfrymist_write_fasta(TEXT("a b"), TEXT("gattaca"), out, 0), BELFRYMIST_REFUSED_NAME, 0, 0);
+    ANSWERS(belfrymist_write_answer, belfrymist_write_fasta(TEXT("a\x7F"), TEXT("GATTACA"), out, sizeof out), BELFRYMIST_REFUSED_NAME, 0, 0);
+    ANSWERS(belfrymist_write_answer, belfrymist_write_fasta(TEXT("a\n"), TEXT("GATTACA"), out, sizeof out), BELFRYMIST_REFUSED_NAME, 0, 0);
+    ANSWERS(belfrymist_write_answer, belfrymist_write_fasta(TEXT("a\0"), TEXT("GATTACA"), out, sizeof out), BELFRYMIST_REFUSED_NAME, 0, 0);
+    ANSWERS(belfrymist_write_answer, belfrymist_write_fasta(TEXT("a"), TEXT("gATTACA"), out, 0), BELFRYMIST_REFUSED_LETTER, 0, 0);
+    ANSWERS(belfrymist_write_answer, belfrymist_write_fasta(TEXT("a"), TEXT(SIXTY "\nT"), out, sizeof out), BELFRYMIST_REFUSED_LETTER, 60, 0);
+    ANSWERS(belfrymist_write_answer, belfrymist_write_fasta(TEXT("a"), TEXT("GATTACN"), NULL, 0), BELFRYMIST_REFUSED_LETTER, 6, 0);
+    ANSWERS(belfrymist_write_answer, belfrymist_write_fasta(TEXT("a"), NULL, 0, out, sizeof out), BELFRYMIST_REFUSED_LETTER, 0, 0);
+    ANSWERS(belfrymist_write_answer, belfrymist_write_fasta(TEXT("n"), TEXT(SIXTY "T"), out, MORE - 1), BELFRYMIST_REFUSED_ROOM, 0, 0);
+    ANSWERS(belfrymist_write_answer, belfrymist_write_fasta(TEXT("n"), TEXT("T"), NULL, 0), BELFRYMIST_REFUSED_ROOM, 0, 0);
+    WANT(untouched(out, 0, sizeof out));
+
+    ANSWERS(belfrymist_write_answer, belfrymist_write_fasta(TEXT(FORTY), TEXT("GATTACA"), out, NAMED), 0, 0, NAMED);
+    WANT(memcmp(out, named, NAMED) == 0 && untouched(out, NAMED, sizeof out));
+    memset(out, UNTOUCHED, sizeof out);
+    ANSWERS(belfrymist_write_answer, belfrymist_write_fasta(TEXT("n"), TEXT(SIXTY), out, SIXTY_LONG), 0, 0, SIXTY_LONG);
+    WANT(memcmp(out, sixty, SIXTY_LONG) == 0 && untouched(out, SIXTY_LONG, sizeof out));
+    memset(out, UNTOUCHED, sizeof out);
+    ANSWERS(belfrymist_write_answer, belfrymist_write_fasta(TEXT("n"), TEXT(SIXTY "T"), out, sizeof out), 0, 0, MORE);
+    WANT(memcmp(out, more, MORE) == 0 && untouched(out, MORE, sizeof out));
+}
+
+/* What reading a text answers, with outputs of so many bytes. */
+#define READ(text, names, many) belfrymist_read_fasta(TEXT(text), name, names, letters, many)
+
+static void reading_records(void)
+{
+    uint8_t name[BELFRYMIST_MOST_NAME + GUARD], letters[61 + GUARD];
+
+    memset(name, UNTOUCHED, sizeof name);
+    memset(letters, UNTOUCHED, sizeof letters);
+    ANSWERS(belfrymist_fasta_answer, belfrymist_read_fasta(NULL, 0, NULL, 0, NULL, 0), BELFRYMIST_REFUSED_NAME, 0, 0, 0);
+    ANSWERS(belfrymist_fasta_answer, READ("n\nGATTACA\n", 40, 61), BELFRYMIST_REFUSED_NAME, 0, 0, 0);
+    ANSWERS(belfrymist_fasta_answer, READ(">\nGATTACA\n", 40, 61), BELFRYMIST_REFUSED_NAME, 0, 0, 0);
+    ANSWERS(belfrymist_fasta_answer, READ(">n", 40, 61), BELFRYMIST_REFUSED_NAME, 0, 0, 0);
+    ANSWERS(belfrymist_fasta_answer, READ(">n m\ngattaca\n", 0, 0), BELFRYMIST_REFUSED_NAME, 0, 0, 0);
+    ANSWERS(belfrymist_fasta_answer, READ(">n\r\nGATTACA\r\n", 40, 61), BELFRYMIST_REFUSED_NAME, 0, 0, 0);
+    ANSWERS(belfrymist_fasta_answer, READ(">" FORTY "a\nGATTACA\n", 40, 61), BELFRYMIST_REFUSED_NAME, 0, 0, 0);
+    ANSWERS(belfrymist_fasta_answer, READ(">n\n", 40, 61), BELFRYMIST_REFUSED_LETTER, 0, 0, 0);
+    ANSWERS(belfrymist_fasta_answer, READ(">n\n\n\n", 40, 61), BELFRYMIST_REFUSED_LETTER, 0, 0, 0);
+    ANSWERS(belfrymist_fasta_answer, READ(">n\nGATTACa\n", 0, 0), BELFRYMIST_REFUSED_LETTER, 6, 0, 0);
+    ANSWERS(belfrymist_fasta_answer, READ(">n\nGATTACA\r\n", 40, 61), BELFRYMIST_REFUSED_LETTER, 7, 0, 0);
+    ANSWERS(belfrymist_fasta_answer, READ(">n\nGATTACA\n>m\nA\n", 40, 61), BELFRYMIST_REFUSED_LETTER, 7, 0, 0);
+    /* 21 is asked of the whole record before 22. */
+    ANSWERS(belfrymist_fasta_answer, READ(">n\nA\nCx\n", 40, 61), BELFRYMIST_REFUSED_LETTER, 2, 0, 0);
+    ANSWERS(belfrymist_fasta_answer, READ(">n\nA\nC\n", 0, 0), BELFRYMIST_REFUSED_LINE, 0, 0, 0);
+    ANSWERS(belfrymist_fasta_answer, READ(">n\n\nGATTACA\n", 40, 61), BELFRYMIST_REFUSED_LINE, 0, 0, 0);
+    ANSWERS(belfrymist_fasta_answer, READ(">n\nGATTACA", 40, 61), BELFRYMIST_REFUSED_LINE, 0, 0, 0);
+    ANSWERS(belfrymist_fasta_answer, READ(">n\n" SIXTY "T\n", 40, 61), BELFRYMIST_REFUSED_LINE, 0, 0, 0);
+    ANSWERS(belfrymist_fasta_answer, READ(">n\n" SIXTY "\n\n", 40, 61), BELFRYMIST_REFUSED_LINE, 0, 0, 0);
+    ANSWERS(belfrymist_fasta_answer, READ(">ab\nGATTACA\n", 1, 61), BELFRYMIST_REFUSED_ROOM, 0, 0, 0);
+    ANSWERS(belfrymist_fasta_answer, READ(">ab\nGATTACA\n", 40, 6), BELFRYMIST_REFUSED_ROOM, 0, 0, 0);
+    ANSWERS(belfrymist_fasta_answer, belfrymist_read_fasta(TEXT(">ab\nGATTACA\n"), NULL, 0, NULL, 0), BELFRYMIST_REFUSED_ROOM, 0, 0, 0);
+    WANT(untouched(name, 0, sizeof name) && untouched(letters, 0, sizeof letters));
+
+    ANSWERS(belfrymist_fasta_answer, READ(">ab\nGATTACA\n", 2, 7), 0, 0, 2, 7);
+    WANT(memcmp(name, "ab", 2) == 0 && untouched(name, 2, sizeof name));
+    WANT(memcmp(letters, "GATTACA", 7) == 0 && untouched(letters, 7, sizeof letters));
+    memset(letters, UNTOUCHED, sizeof letters);
+    ANSWERS(belfrymist_fasta_answer, READ(">" FORTY "\n" SIXTY "\nT\n", 40, 61), 0, 0, 40, 61);
+    WANT(memcmp(name, FORTY, 40) == 0 && untouched(name, 40, sizeof name));
+    WANT(memcmp(letters, SIXTY "T", 61) == 0 && untouched(letters, 61, sizeof letters));
+    memset(letters, UNTOUCHED, sizeof letters);
+    ANSWERS(belfrymist_fasta_answer, READ(">n\n" SIXTY "\n", sizeof name, sizeof letters), 0, 0, 1, 60);
+    WANT(memcmp(name, "n", 1) == 0 && memcmp(letters, SIXTY, 60) == 0 && untouched(letters, 60, sizeof letters));
+}
+
 int main(int count, char **arguments)
 {
     uint8_t s1[CARD], p1[CARD], p4[CARD], s5[CARD], wider[CARD], neighbours[CARD], s1_before[CARD];
@@ -310,6 +393,8 @@ int main(int count, char **arguments)
     counting(s1, p1, p4);
     importing(p1, neighbours);
     exporting(p1, neighbours);
+    writing_records();
+    reading_records();
     WANT(memcmp(s1, s1_before, CARD) == 0);
     printf("header: %d asked, %d wrong\n", asked, wrong);
     return wrong != 0;

@@ -17,9 +17,10 @@ static const uint8_t *lowest_own;
 static void (*call)(void);
 
 static uint8_t card[BELFRYMIST_MOST_CARD + 1], out[BELFRYMIST_MOST_CARD], list[BELFRYMIST_MOST_LIST];
+static uint8_t name[BELFRYMIST_MOST_NAME], letters[BELFRYMIST_MOST_SEQUENCE], record[BELFRYMIST_MOST_RECORD];
 static uint32_t words[BELFRYMIST_MOST_ENTRIES];
 static uint16_t ones[BELFRYMIST_MOST_ENTRIES], twos[BELFRYMIST_MOST_ENTRIES];
-static size_t length, list_length, m, kind, l;
+static size_t length, list_length, record_length, m, kind, l;
 static volatile size_t seen;
 
 static void on_own_stack(void)
@@ -58,6 +59,8 @@ static void count_card(void) { seen = belfrymist_count(card, length).any; }
 static void count_lists(void) { seen = belfrymist_count_lists(kind, l, words, m, ones, m, twos, m).any; }
 static void export_card(void) { list_length = belfrymist_export(card, length, list, sizeof list).length; }
 static void import_list(void) { seen = belfrymist_import(list, list_length, out, sizeof out).length; }
+static void write_record(void) { record_length = belfrymist_write_fasta(name, sizeof name, letters, sizeof letters, record, sizeof record).length; }
+static void read_record(void) { seen = belfrymist_read_fasta(record, record_length, name, sizeof name, letters, sizeof letters).letters; }
 
 /* Takes up a card that stands in `card`, its entries in the lists. */
 static void take_up(void)
@@ -92,7 +95,7 @@ static void measure(void)
 {
     static void (*const building[])(void) = {build}, (*const settling[])(void) = {settle_card, settle_lists};
     static void (*const counting[])(void) = {count_card, count_lists}, (*const importing[])(void) = {import_list};
-    static void (*const reading[])(void) = {admit, entry, step, companion, fetch, written, export_card};
+    static void (*const reading[])(void) = {admit, entry, step, companion, fetch, written, export_card, write_record, read_record};
     most_building = most_of(most_building, building, 1);
     take_up();
     if (m == 0)
@@ -158,6 +161,8 @@ static int take_up_remembered(void)
 int main(int count, char **names)
 {
     int i;
+    memset(name, 'n', sizeof name);
+    memset(letters, 'A', sizeof letters);
     for (i = 1; i < count; i++) {
         FILE *file = fopen(names[i], "rb");
         if (file == NULL)
@@ -173,6 +178,8 @@ int main(int count, char **names)
     if (!take_up_remembered())
         return 3;
     measure();
+    if (record_length != sizeof record)
+        return 4;
     printf("stack: at most %zu bytes to build, %zu to settle, %zu to count, %zu to import and %zu for other calls; the header says %d, %d, %d, %d "
            "and %d\n",
            most_building, most_settling, most_counting, most_importing, most_reading, BELFRYMIST_STACK, BELFRYMIST_STACK_SETTLING,

@@ -4,10 +4,13 @@
 --   test ok n p       == a test, and the refusal n at p that is due where it fails
 --   first ts a        == the refusal of the first of the tests ts that fails, or else a is given
 --   saysHeld h        == what the enum `Held` says
+--   outputAfter bytes before a    == a lent output after the answer a, where it was `before`: bytes that are given stand at its start, and its
+--                                    later ones are as they were; a refusal changes no byte (demand 1)
 -- Every order of tests in 01 is one list of tests, in that order. Assumes nothing.
 use mathlib.Core.Bool.{Bool, cond}
-use mathlib.Core.List.{List, [], _∷_}
+use mathlib.Core.List.{List, [], _∷_, _++_}
 use Prim.Native.Nat.{ℕ}
+use lib.ListN.{length, drop}
 use Rattle.answers.specs.declared.Held.{Held}
 use Rattle.answers.specs.declared.Held.the-variants.{Holds, Refused}
 
@@ -29,3 +32,7 @@ first (test ok n p ∷ ts) a = cond ok (first ts a) (refused n p)
 abbrev pub saysHeld : Held → Answer Sound
 saysHeld Holds = given sound
 saysHeld (Refused r) = refused (r .number) (r .place)
+
+abbrev pub outputAfter : {A : Type 0} → List ℕ → List ℕ → Answer A → List ℕ
+outputAfter bytes before (given a) = bytes ++ drop (length bytes) before
+outputAfter bytes before (refused n p) = before

@@ -57,6 +57,18 @@ Lists = 13
 abbrev pub Absent : ℕ
 Absent = 14
 
+-- request 1: "also a missing `>` or no newline after the name"
+abbrev pub Name : ℕ
+Name = 20
+
+-- request 1: "with the count of letters before it (no letter at all counts, at 0)"
+abbrev pub Letter : ℕ
+Letter = 21
+
+-- request 1: "where a break is missing or stands elsewhere than the rule puts it"
+abbrev pub Line : ℕ
+Line = 22
+
 -- request 2: "also an empty word, a number above 65,535 or with a needless leading zero, or an empty list at line 1"
 abbrev pub Text : ℕ
 Text = 23

@@ -40,6 +40,12 @@ pub const LISTS: usize = 13;
 
 pub const ABSENT: usize = 14;
 
+pub const NAME: usize = 20;
+
+pub const LETTER: usize = 21;
+
+pub const LINE: usize = 22;
+
 pub const TEXT: usize = 23;
 
 pub const MIXED: usize = 24;

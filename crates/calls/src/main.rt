@@ -1,5 +1,6 @@
-// Runs stored records, each of which counts the builds of a card or of lists, settles a card or lists, imports a list or exports a card, and prints
-// a line for each. The records stand on standard input, one after the other: a tag byte, and then the record's fields, little-endian.
+// Runs stored records, each of which counts the builds of a card or of lists, settles a card or lists, imports a list or exports a card, or writes
+// or reads a FASTA record, and prints a line for each. The records stand on standard input, one after the other: a tag byte, and then the record's
+// fields, little-endian.
 //     C n bytes    counts the builds of the card of the n bytes after it
 //     L kind l a b c words ones twos
 //                  counts the builds of lists of a words (four bytes each), b places one and c places two (two bytes each)
@@ -20,10 +21,17 @@
 //     Z kind l m words ones twos
 //                  writes the card of lists of m slots each, exports it, and imports its list in the same way
 //                                       `list LENGTH HASH again LENGTH HASH`
-// A call that refuses prints `refused N P`, for all but C and L with the hash of the whole output after it. n has four bytes, and is at most
-// 6,400, for I 16,384; kind and l have eight; a, b, c, m and `room` have two, and are at most 600, but `room` for I 6,400 and for X 16,384. A
-// record that is none of these, or is cut, ends the run with the line `bad record`.
+//     W i j k name letters
+//                  writes the name, of i bytes, and the letters, of j, into such an output of k bytes, and reads that record into two of 6,400
+//                                       `record LENGTH HASH parts NAME LETTERS HASH HASH`
+//     R i j k bytes
+//                  reads the FASTA record of the i bytes after it into such outputs, of j bytes for its name and of k for its letters
+//                                       `parts NAME LETTERS HASH HASH`
+// A call that refuses prints `refused N P`, for all but C and L with the hash of the whole output after it, or of both. n has four bytes, and is at
+// most 6,400, for I 16,384; kind and l have eight; a, b, c, m and `room` have two, and are at most 600, but `room` for I 6,400 and for X 16,384;
+// i, j and k have two, and are at most 6,400. A record that is none of these, or is cut, ends the run with the line `bad record`.
 mod count;
+mod fasta_records;
 mod listing;
 mod settle;
 
@@ -42,7 +50,7 @@ fn bytes_of(tag: u8) -> usize
 {
     match tag {
         b'C' | b'Y' => 4,
-        b'S' | b'I' | b'X' => 6,
+        b'S' | b'I' | b'X' | b'W' | b'R' => 6,
         b'Z' => 18,
         b'L' => 22,
         b'T' => FIELDS,
@@ -61,6 +69,7 @@ fn run(tag: u8, fields: &[u8; FIELDS]) -> bool {
         b'X' => listing::of_card(fields),
         b'Y' => listing::again_of_card(fields),
         b'Z' => listing::again_of_lists(fields),
+        b'W' | b'R' => fasta_records::of_fields(tag, fields),
         _ => false,
     }
 }

@@ -5,7 +5,7 @@ use Prim.Native.Nat.{ℕ, _≤_, _<_}
 use lib.ListN.{length}
 use borrow.Author.Tests.{le-leb, lt-leb}
 use Rattle.answers.specs.declared.Refusal.{Refusal}
-use Rattle.answers.specs.Answer.{Answer, given, refused}
+use Rattle.answers.specs.Answer.{Answer, given, refused, outputAfter}
 use Rattle.answers.proofs.Laws.{first-value}
 use Rattle.entries.specs.Slot.{slotFrom}
 use Rattle.layout.specs.Layout.{sizeOf}
@@ -16,30 +16,35 @@ use Rattle.text.specs.Putting.{Put}
 use Rattle.text.proofs.PrintedLaws.{put-printed}
 use Rattle.writer.specs.declared.Written.{Written}
 use Rattle.writer.specs.declared.Written.the-variants as written
-use Rattle.writer.specs.Writing.{saysWritten, outputAfter}
+use Rattle.writer.specs.Writing.{saysWritten}
 use Rattle.importing.specs.Importing.{kindIn, lettersIn, wordsIn, onesIn, twosIn, cardIn, importing, Imports}
 use Rattle.exporting.specs.declared.Exported.{Exported}
 use Rattle.exporting.specs.declared.Exported.the-variants as exported
 use Rattle.exporting.specs.Exporting.{listOf, exporting, listRoom, saysExported, Exports}
 use Rattle.input.specs.Input.{mostList}
-use Rattle.converting.specs.Converting.{byAnswer, tooLong, toCard, toList, Converted}
+use Rattle.converting.specs.Converting.{onErrors, byAnswer, tooLong, toCard, toList, Converted}
 
 -- ---- by an answer
 
 nothing : (before : List ℕ) → Printed (λ bytes. bytes ≡ []) before 0 before
 nothing before = record { bytes = []; prints = refl; count = refl; output = refl }
 
-module _ (bytes out : List ℕ) {out′ err : List ℕ} {a : Answer ℕ} {n : ℕ} (after : out′ ≡ outputAfter bytes out a) where
-  given-written : a ≡ given n → n ≡ length bytes → Converted (byAnswer bytes a) out err (record { output = n; errors = 0 }) out′ err
-  given-written e long =
-      rw e (record { on-output = record { bytes = bytes; prints = refl; count = long; output = rw e at after }; on-errors = nothing err })
+-- bytes on standard error alone
+pub errors-written : {bytes err err′ : List ℕ} {n : ℕ} (out : List ℕ) → Put bytes 0 err n err′
+    → Converted (onErrors bytes) out err (record { output = 0; errors = n }) out err′
+errors-written out put = record { on-output = nothing out; on-errors = put-printed refl put }
 
-  refused-written : {r : Refusal} {err′ : List ℕ} → a ≡ refused (r .number) (r .place)
+module _ (bytes out : List ℕ) {out′ err : List ℕ} {a : Answer ℕ} {n : ℕ} (after : out′ ≡ outputAfter bytes out a) where
+  pub given-written : a ≡ given n → n ≡ length bytes → Converted (byAnswer bytes a) out err (record { output = n; errors = 0 }) out′ err
+  given-written e long =
+      rw (e, long) (record { on-output = record { bytes = bytes; prints = refl; count = refl; output = rw e at after }; on-errors = nothing err })
+
+  pub refused-written : {r : Refusal} {err′ : List ℕ} → a ≡ refused (r .number) (r .place)
       → Put (refusalLine (r .number) (r .place)) 0 err n err′
       → Converted (byAnswer bytes a) out err (record { output = 0; errors = n }) out′ err′
   refused-written e put =
       let same : out′ ≡ out = rw e at after in
-      rw (e, same) (record { on-output = nothing out; on-errors = put-printed refl put })
+      rw (e, same) (errors-written out put)
 
 -- ---- `list2card`
 
@@ -72,7 +77,7 @@ pub too-long-written : (limit : ℕ) (list out : List ℕ) {n : ℕ} {err err′
     → Converted (toCard limit list) out err (record { output = 0; errors = n }) out err′
 unfolding toCard
 too-long-written limit list out long put =
-    rw (lt-leb (length list) mostList long) (record { on-output = nothing out; on-errors = put-printed refl put })
+    rw (lt-leb (length list) mostList long) (errors-written out put)
 
 -- ---- `card2list`
 

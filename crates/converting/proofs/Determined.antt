@@ -8,12 +8,16 @@ use denote.Ref.{now}
 use denote.Triple.Clauses.{AtExit}
 use borrow.Fn.Kinds.{Dens, resT, endedOf}
 use Rattle.text.proofs.PrintedLaws.{printed-one}
+use Rattle.builds.proofs.Determined.{says-one}
 use Rattle.converting.specs.declared.Lengths.{Lengths}
 use Rattle.converting.specs.Converting.{Streams, Converted}
+use Rattle.converting.specs.Fasta.{ToFasta}
 use Rattle.converting.proofs.to_card.convert.Kinds as to-card
 use Rattle.converting.proofs.to_card.convert.Reads as to-card-reads
 use Rattle.converting.proofs.to_list.convert.Kinds as to-list
 use Rattle.converting.proofs.to_list.convert.Reads as to-list-reads
+use Rattle.converting.proofs.to_fasta.convert.Kinds as to-fasta
+use Rattle.converting.proofs.to_fasta.convert.Reads as to-fasta-reads
 
 lengths-one : (r r′ : Lengths) → r .output ≡ r′ .output → r .errors ≡ r′ .errors → r ≡ r′
 lengths-one r r′ p q =
@@ -38,3 +42,15 @@ pub to-list-one : (κs : Lfts 3) (a : Dens κs to-list.ps) (r r′ : resT to-lis
     → to-list-reads.Post κs a r e → to-list-reads.Post κs a r′ e′
     → (r ≡ r′) × (now (e .1 .0) ≡ now (e′ .1 .0)) × (now (e .1 .1 .0) ≡ now (e′ .1 .1 .0))
 to-list-one κs a r r′ e e′ p q = converted-one p q
+
+-- one answer at most is said of a card
+fasta-one : {limit : ℕ} {card name out err out₁ err₁ out₂ err₂ : List ℕ} {r r′ : Lengths} → ToFasta limit card name out err r out₁ err₁
+    → ToFasta limit card name out err r′ out₂ err₂
+    → (r ≡ r′) × (out₁ ≡ out₂) × (err₁ ≡ err₂)
+fasta-one p q = converted-one (rw (says-one (p .says) (q .says)) at (p .written)) (q .written)
+
+pub to-fasta-one : (κs : Lfts 4) (a : Dens κs to-fasta.ps) (r r′ : resT to-fasta.r κs .Denot)
+    (e e′ : AtExit (endedOf 4 to-fasta.ps to-fasta.r) κs)
+    → to-fasta-reads.Post κs a r e → to-fasta-reads.Post κs a r′ e′
+    → (r ≡ r′) × (now (e .1 .1 .0) ≡ now (e′ .1 .1 .0)) × (now (e .1 .1 .1 .0) ≡ now (e′ .1 .1 .1 .0))
+to-fasta-one κs a r r′ e e′ p q = fasta-one p q

@@ -26,7 +26,7 @@ use Rattle.probes.specs.Lines.{linesOf, isLine, lineOf}
 use Rattle.probes.specs.Testing.{known, saidTests, lineTests, textTests}
 use Rattle.importing.specs.Importing.{cardIn, importing}
 use Rattle.exporting.specs.Exporting.{listedFor, exporting}
-use Rattle.converting.specs.Converting.{Streams, tooLong, toCard, toList}
+use Rattle.converting.specs.Converting.{Streams, onOutput, onErrors, tooLong, toCard, toList}
 
 abbrev gattaca : List ℕ
 gattaca = ascii "GAT\t1-2\nATT\t1-3\nTTA\t2-4\nTAC\t3-5\nACA\t4-5\n"
@@ -38,12 +38,6 @@ gattacaCard =
     headOf 1 2 3 5 0 11 227
     ++ (bytesOf 35 0 1 ++ (bytesOf 15 0 2 ++ (bytesOf 60 1 3 ++ (bytesOf 49 2 4 ++ (bytesOf 4 3 4
     ++ (replicate 468 0 ++ (1 ∷ 0 ∷ 184 ∷ 122 ∷ [])))))))
-
-abbrev onOutput : List ℕ → Streams
-onOutput bytes = record { output = bytes; errors = [] }
-
-abbrev onErrors : List ℕ → Streams
-onErrors bytes = record { output = []; errors = bytes }
 
 -- ---- from a list
 

@@ -1,5 +1,6 @@
--- The first bytes of a card, one more than the longest card has, are enough for `card2list`: what it writes for them is what it writes for
--- all of it, since the reader refuses both alike (`FrontLaws` of `card`). And no list that is too long for `list2card` has a card. Assumes nothing.
+-- The first bytes of a card, one more than the longest card has, are enough for `card2list` and `card2fasta`: what each writes for them is
+-- what it writes for all of it, since the reader refuses both alike (`FrontLaws` of `card`). And no list that is too long for `list2card` has
+-- a card. Assumes nothing.
 use mathlib.Core.Path.{_≡_, refl, sym, ap, _∙_}
 use mathlib.Core.Logic.{⊎-elim}
 use mathlib.Core.List.{List}
@@ -8,19 +9,23 @@ use native.Mathlib.Omega.{arith}
 use lib.ListN.{length, take}
 use lib.Seq.{take-all, length-take-le}
 use borrow.Author.Tests.{lt-leb}
-use Rattle.answers.specs.Answer.{given, refused}
+use Rattle.answers.specs.Answer.{given, refused, outputAfter}
 use Rattle.answers.proofs.Laws.{first-refused}
 use Rattle.card.specs.Reading.{readingOrder}
-use Rattle.card.proofs.FrontLaws.{Alike, needed}
+use Rattle.card.proofs.FrontLaws.{Alike, enough, needed}
 use Rattle.layout.specs.Bounds.{mostEntries}
 use Rattle.writer.specs.declared.Written.the-variants.{Card}
-use Rattle.writer.specs.Writing.{outputAfter}
 use Rattle.probes.proofs.NumberLaws.{lt-or-le}
 use Rattle.importing.specs.Importing.{cardIn, importing, Imports}
 use Rattle.importing.proofs.Imported.{imported-short}
 use Rattle.exporting.specs.Exporting.{exporting, listRoom}
 use Rattle.input.specs.Input.{programBytes, mostList, listBytes}
+use Rattle.lines.proofs.LongInput.{said-too}
+use Rattle.converting.specs.declared.Lengths.{Lengths}
 use Rattle.converting.specs.Converting.{toCard, toList}
+use Rattle.converting.specs.Fasta.{ToFasta}
+
+-- ---- a card
 
 alike-written : (limit : ℕ) (card other : List ℕ) → Alike limit card other → toList limit card ≡ toList limit other
 unfolding toList exporting
@@ -35,6 +40,21 @@ pub front-enough : (limit : ℕ) (card : List ℕ) → toList limit (take (progr
 front-enough limit card =
     needed limit {Is = λ bytes. toList limit bytes ≡ toList limit card} (λ one other alike e. sym (alike-written limit one other alike) ∙ e)
     card refl
+
+module _ {name out err out′ err′ : List ℕ} {r : Lengths} where
+  fasta-too : {limit : ℕ} {card other : List ℕ} → Alike limit card other → ToFasta limit card name out err r out′ err′
+      → ToFasta limit other name out err r out′ err′
+  fasta-too alike did = record { said = did .said; says = said-too alike (did .says); written = did .written }
+
+  pub fasta-front-enough : (limit : ℕ) (card : List ℕ) → ToFasta limit (take (programBytes limit) card) name out err r out′ err′
+      → ToFasta limit card name out err r out′ err′
+  fasta-front-enough limit card = enough limit (λ one other alike. fasta-too alike) card
+
+  pub fasta-front-needed : (limit : ℕ) (card : List ℕ) → ToFasta limit card name out err r out′ err′
+      → ToFasta limit (take (programBytes limit) card) name out err r out′ err′
+  fasta-front-needed limit card = needed limit (λ one other alike. fasta-too alike) card
+
+-- ---- a list
 
 -- The same of a list for `list2card`: of a longer one no more is written than that it is too long.
 pub list-enough : (limit : ℕ) (list : List ℕ) → toCard limit (take listBytes list) ≡ toCard limit list

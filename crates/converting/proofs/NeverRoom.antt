@@ -1,8 +1,9 @@
--- With room for the longest card, and for the list of every card, 12 never comes: neither program writes `refused 12 0`. Assumes nothing.
+-- With room for the longest card, for the list of every card and for the record of every build, 12 never comes: none of the three programs
+-- writes `refused 12 0`. Assumes nothing.
 use mathlib.Core.Path.{_≡_, refl, sym, ap, _∙_}
 use mathlib.Core.Logic.{⊎-elim}
 use mathlib.Core.Bool.{Bool, true, false, not, cond, _&&_}
-use mathlib.Core.List.{List, [], _++_}
+use mathlib.Core.List.{List, _∷_, _++_}
 use Prim.Native.Nat.{ℕ, _/_, _<_}
 use Prim.Native.Char.{code}
 use native.Mathlib.Nat.{eq-zero-or-pos}
@@ -10,7 +11,7 @@ use native.Mathlib.Omega.{arith}
 use lib.ListN.{length, getD, drop}
 use lib.Dec.{leb, ltb, eqb}
 use borrow.Author.Tests.{le-leb, ltb-true, lt-ltb, eqb-false, ne-eqb, not-true}
-use Rattle.answers.specs.Numbers.{Room}
+use Rattle.answers.specs.Numbers.{Room, Name}
 use Rattle.answers.specs.Answer.{Answer, given, refused, Sound, sound, Test, first}
 use Rattle.answers.proofs.Laws.{first-holds, first-refused, first-last, given-not-refused}
 use Rattle.answers.proofs.Tests.{both}
@@ -31,7 +32,14 @@ use Rattle.importing.specs.Importing.{kindIn, lettersIn, wordsIn, onesIn, twosI
 use Rattle.exporting.specs.Exporting.{listOf, exporting, listRoom}
 use Rattle.exporting.proofs.ExportRoom.{list-short}
 use Rattle.input.specs.Input.{mostList}
-use Rattle.converting.specs.Converting.{byAnswer, tooLong, toCard, toList}
+use Rattle.sequence.specs.Verdict.{sole, several, noBuild, Outcome, settled, unsettled}
+use Rattle.fasta.specs.Record.{isName}
+use Rattle.builds.specs.Building.{Says, refuses}
+use Rattle.lines.specs.Lines.{programBudget, lettersRoom, verdictLine}
+use Rattle.lines.proofs.NeverRoom.{room-enough}
+use Rattle.converting.specs.Converting.{onErrors, byAnswer, tooLong, toCard, toList}
+use Rattle.converting.specs.Fasta.{fastaBy}
+use Rattle.converting.proofs.ByVerdict.{sole-lettered, named, unnamed}
 
 -- ---- the numbers that come
 
@@ -41,6 +49,9 @@ isOther n = ltb n 100 && not (eqb n Room)
 
 abbrev Other : ℕ → Type 0
 Other n = isOther n ≡ true
+
+few-other : {n : ℕ} → n < Room → isOther n ≡ true
+few-other {n} few = rw (lt-ltb n 100 (omega arith)) (rw (ne-eqb n Room (λ z. omega arith)) refl)
 
 text-other : (list : List ℕ) → Only Other (textTests list)
 text-other list = text-only {P = Other} refl refl refl refl list
@@ -89,8 +100,7 @@ module _ (card : List ℕ) {n p : ℕ} (e : exporting mostEntries card (listRoom
           absurd (given-not-refused (sym (first-holds _ _ (readingOrder mostEntries card) holds ∙ first-last _ _ _ _ room) ∙ e))
       go (refused k q) stops =
           let same : k ≡ n = cc (first-refused _ _ (readingOrder mostEntries card) stops) in
-          let few = rw same at (reader-below mostEntries card sound stops) in
-          rw (lt-ltb n 100 (omega arith)) (rw (ne-eqb n Room (λ z. omega arith)) refl)
+          few-other (rw same at (reader-below mostEntries card sound stops))
 
 -- ---- nor is it written
 
@@ -133,10 +143,38 @@ module _ (limit : ℕ) (list : List ℕ) (p : ℕ) where
   unfolding toCard tooLong
   card-never e = go (leb (length list) mostList) e
     where
-      go : (t : Bool) → cond t (byAnswer (cardIn list) answer) (record { output = []; errors = tooLong }) .errors ≡ refusalLine Room p → ⊥
+      go : (t : Bool) → cond t (byAnswer (cardIn list) answer) (onErrors tooLong) .errors ≡ refusalLine Room p → ⊥
       go true e = answered-other (cardIn list) answer (λ n k is. import-other limit list is) p e
       go false e = let z : code "l" ≡ code "r" = ap (λ (xs : List ℕ). getD xs 0 0) e in omega arith
 
 pub list-never : (card : List ℕ) (p : ℕ) → toList mostEntries card .errors ≡ refusalLine Room p → ⊥
 unfolding toList
 list-never card p e = answered-other (listOf card) (exporting mostEntries card (listRoom mostEntries)) (λ n k is. export-other card is) p e
+
+-- ---- nor by `card2fasta`
+
+-- a verdict's line does not begin as a refusal's does
+not-refused : {b : ℕ} {rest more : List ℕ} → (b ≡ code "r" → ⊥) → b ∷ rest ≡ code "r" ∷ more → ⊥
+not-refused other e = other (ap (λ (xs : List ℕ). getD xs 0 0) e)
+
+module _ (limit : ℕ) (card name : List ℕ) (q : ℕ) where
+  sole-never : {s : List ℕ} {n : ℕ} → Says limit card programBudget (lettersRoom limit) (given (settled (sole s) n))
+      → fastaBy limit name (given (settled (sole s) n)) .errors ≡ refusalLine Room q
+      → ⊥
+  sole-never {s} {n} says e = go (isName name) refl
+    where
+      go : (t : Bool) → isName name ≡ t → ⊥
+      go true is =
+          let z : 0 ≡ code "r" = ap (λ (xs : List ℕ). getD xs 0 0) (rw (named limit name s n (sole-lettered says) is) at e) in
+          omega arith
+      go false other = other-line Name 0 q refl (rw (unnamed limit name s n other) at e)
+
+  pub fasta-never : {a : Answer Outcome} → Says limit card programBudget (lettersRoom limit) a
+      → fastaBy limit name a .errors ≡ refusalLine Room q
+      → ⊥
+  unfolding fastaBy verdictLine
+  fasta-never {a = given (settled (sole s) n)} says e = sole-never says e
+  fasta-never {a = given (settled (several s) n)} says e = not-refused (λ z. omega arith) e
+  fasta-never {a = given (settled noBuild n)} says e = not-refused (λ z. omega arith) e
+  fasta-never {a = given (unsettled n)} says e = not-refused (λ z. omega arith) e
+  fasta-never {a = refused n p} (refuses stops) e = other-line n p q (few-other (room-enough limit card stops)) e

@@ -1,6 +1,8 @@
 -- What the programs `list2card` and `card2list` write (02, §2): a card or a probe list on standard output, and a refusal on standard error.
 -- `limit` is the most entries that a card may have.
 --   Streams                  == the bytes that a program writes on standard output and on standard error
+--   onOutput bytes, onErrors bytes
+--                            == these bytes alone, on standard output and on standard error
 --   byAnswer bytes a         == what is written where a is answered: these bytes, or the line of the refusal
 --   tooLong                  == what is written of a list that is longer than the program takes
 --   toCard limit list        == what `list2card` writes for a list
@@ -27,9 +29,15 @@ pub record Streams : Type 0 where
   pub output : List ℕ
   pub errors : List ℕ
 
+abbrev pub onOutput : List ℕ → Streams
+onOutput bytes = record { output = bytes; errors = [] }
+
+abbrev pub onErrors : List ℕ → Streams
+onErrors bytes = record { output = []; errors = bytes }
+
 abbrev pub byAnswer : List ℕ → Answer ℕ → Streams
-byAnswer bytes (given n) = record { output = bytes; errors = [] }
-byAnswer bytes (refused n p) = record { output = []; errors = refusalLine n p }
+byAnswer bytes (given n) = onOutput bytes
+byAnswer bytes (refused n p) = onErrors (refusalLine n p)
 
 unfoldable pub tooLong : List ℕ
 tooLong = ascii "list2card: more than " ++ (decimal mostList ++ ascii " bytes\n")
@@ -37,8 +45,7 @@ tooLong = ascii "list2card: more than " ++ (decimal mostList ++ ascii " bytes\n"
 -- with room for the longest card
 unfoldable pub toCard : ℕ → List ℕ → Streams
 toCard limit list =
-    cond (leb (length list) mostList) (byAnswer (cardIn list) (importing limit list (sizeOf limit)))
-    (record { output = []; errors = tooLong })
+    cond (leb (length list) mostList) (byAnswer (cardIn list) (importing limit list (sizeOf limit))) (onErrors tooLong)
 
 -- with room for the list of every card
 unfoldable pub toList : ℕ → List ℕ → Streams

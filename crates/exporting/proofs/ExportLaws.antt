@@ -82,7 +82,7 @@ module _ (card : List ℕ) (of-bytes : AreBytes card) {f : Format} (admitted : a
   export-text h is =
       let says : exporting mostEntries card (length before) ≡ given n =
       list-given mostEntries card admitted (length before) (omega arith) ∙ ap given (sym e) in
-      record { of-bytes = of-bytes; answer = sym says; bytes = rw says (ap (λ (t : List ℕ). t ++ drop n before) is) }
+      record { of-bytes = of-bytes; answer = sym says; bytes = rw says (λ i. is i ++ drop (e i) before) }
 
 -- the reader's refusals
 pub card-refused : (limit : ℕ) (card : List ℕ) (room : ℕ) {n p : ℕ} → admission limit card ≡ refused n p → exporting limit card room ≡ refused n p

@@ -4,11 +4,10 @@ use mathlib.Core.List.{List, _++_}
 use Prim.Native.Nat.{ℕ, _≤_}
 use native.Mathlib.Omega.{arith}
 use lib.ListN.{length, drop}
-use Rattle.answers.specs.Answer.{given}
+use Rattle.answers.specs.Answer.{given, outputAfter}
 use Rattle.layout.specs.Layout.{toldBy}
 use Rattle.card.specs.Fetching.{admission}
 use Rattle.writer.specs.declared.Written.the-variants.{Card}
-use Rattle.writer.specs.Writing.{outputAfter}
 use Rattle.probes.specs.Line.{mostNumber}
 use Rattle.importing.specs.Importing.{cardIn, importing, Imports}
 use Rattle.importing.proofs.Imported.{imported-short}

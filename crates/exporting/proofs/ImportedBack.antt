@@ -87,5 +87,7 @@ module _ {limit : ℕ} (few : limit ≤ mostNumber) {text before after : List �
           listed-imports limit few (cardIn text) admitted (length room) (rw card-long h) ∙ ap given card-long in
           let same : cardIn (listOf (cardIn text)) ≡ take n after =
           listed-card limit few (cardIn text) admitted ∙ made-again limit text admitted ∙ sym (imported-card did said) in
-          let bytes : last ≡ cardIn (listOf (cardIn text)) ++ drop n room = rw answer at (own .bytes) in
-          (own .answer ∙ answer, bytes ∙ ap (λ (xs : List ℕ). xs ++ drop n room) same)
+          let card = cardIn (listOf (cardIn text)) in
+          let long : length card ≡ n = ap length (same ∙ imported-card did said) ∙ card-long in
+          let bytes : last ≡ card ++ drop (length card) room = rw answer at (own .bytes) in
+          (own .answer ∙ answer, bytes ∙ (λ i. same i ++ drop (long i) room))

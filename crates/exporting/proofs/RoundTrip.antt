@@ -77,8 +77,9 @@ module _ (limit : ℕ) (few : limit ≤ mostNumber) (card : List ℕ) {before af
   exported-list =
       let answer = sym (did .answer) ∙ said in
       let size : length (listOf card) ≡ n = first-value _ (length (listOf card)) n answer in
-      let bytes : after ≡ listOf card ++ drop n before = rw answer at (did .bytes) in
-      ap (take n) bytes ∙ take-at (listOf card) (drop n before) n size
+      let rest = drop (length (listOf card)) before in
+      let bytes : after ≡ listOf card ++ rest = rw answer at (did .bytes) in
+      ap (take n) bytes ∙ take-at (listOf card) rest n size
 
   -- "must import to the same card"
   pub exported-imports : {room end : List ℕ} {q : Written} → Imports limit (take n after) room q end → length card ≤ length room
@@ -88,5 +89,5 @@ module _ (limit : ℕ) (few : limit ≤ mostNumber) (card : List ℕ) {before af
       let answer : importing limit (listOf card) (length room) ≡ given (length card) =
       listed-imports limit few card exported-admitted (length room) h in
       let same : cardIn (listOf card) ≡ card = same-card limit few card exported-admitted (did .of-bytes) in
-      let text : end ≡ cardIn (listOf card) ++ drop (length card) room = rw answer at (own .bytes) in
-      (own .answer ∙ answer, text ∙ ap (λ (xs : List ℕ). xs ++ drop (length card) room) same)
+      let text : end ≡ cardIn (listOf card) ++ drop (length (cardIn (listOf card))) room = rw answer at (own .bytes) in
+      (own .answer ∙ answer, text ∙ ap (λ (xs : List ℕ). xs ++ drop (length xs) room) same)

@@ -17,7 +17,7 @@ use mathlib.Core.List.{List, [], _∷_, _++_}
 use lib.ListN.{length}
 use lib.Dec.{leb, eqb}
 use Rattle.answers.specs.Numbers.{Room}
-use Rattle.answers.specs.Answer.{Answer, given, refused, test, first}
+use Rattle.answers.specs.Answer.{Answer, given, refused, test, first, outputAfter}
 use Rattle.answers.specs.Row.{row}
 use Rattle.block.specs.Bytes.{AreBytes}
 use Rattle.entries.specs.declared.Format.{Format}
@@ -26,7 +26,6 @@ use Rattle.entries.specs.Fault.{span, noPlace}
 use Rattle.sequence.specs.Build.{lettersOf}
 use Rattle.layout.specs.Layout.{toldBy, slotOf}
 use Rattle.card.specs.Reading.{readingOrder}
-use Rattle.writer.specs.Writing.{outputAfter}
 use Rattle.probes.specs.declared.line.Marked.{Marked}
 use Rattle.probes.specs.declared.line.Marked.the-variants.{Bare, Two, Run}
 use Rattle.probes.specs.Line.{Line, lineText, mostLine}

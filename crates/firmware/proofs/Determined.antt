@@ -25,6 +25,10 @@ use Rattle.firmware.proofs.listing.belfrymist_import.Kinds as import
 use Rattle.firmware.proofs.listing.belfrymist_import.Reads as import-reads
 use Rattle.firmware.proofs.listing.belfrymist_export.Kinds as export
 use Rattle.firmware.proofs.listing.belfrymist_export.Reads as export-reads
+use Rattle.firmware.proofs.record.belfrymist_write_fasta.Kinds as write-fasta
+use Rattle.firmware.proofs.record.belfrymist_write_fasta.Reads as write-fasta-reads
+use Rattle.firmware.proofs.record.belfrymist_read_fasta.Kinds as read-fasta
+use Rattle.firmware.proofs.record.belfrymist_read_fasta.Reads as read-fasta-reads
 use Rattle.firmware.proofs.building.belfrymist_build.Kinds as build
 use Rattle.firmware.proofs.building.belfrymist_build.Reads as build-reads
 use Rattle.firmware.proofs.settle.belfrymist_settle.Kinds as settle
@@ -75,6 +79,21 @@ import-one κs a r r′ e e′ p q = (p .0 ∙ sym (q .0), p .1 ∙ sym (q .1))
 pub export-one : (κs : Lfts 2) (a : Dens κs export.ps) (r r′ : resT export.r κs .Denot) (e e′ : AtExit (endedOf 2 export.ps export.r) κs)
     → export-reads.Post κs a r e → export-reads.Post κs a r′ e′ → (r ≡ r′) × (now (e .1 .0) ≡ now (e′ .1 .0))
 export-one κs a r r′ e e′ p q = (p .0 ∙ sym (q .0), p .1 ∙ sym (q .1))
+
+-- what writing a FASTA record answers, and reading one, and the outputs afterwards
+pub write-fasta-one : (κs : Lfts 3) (a : Dens κs write-fasta.ps) (r r′ : resT write-fasta.r κs .Denot)
+    (e e′ : AtExit (endedOf 3 write-fasta.ps write-fasta.r) κs)
+    → write-fasta-reads.Post κs a r e
+    → write-fasta-reads.Post κs a r′ e′
+    → (r ≡ r′) × (now (e .1 .1 .0) ≡ now (e′ .1 .1 .0))
+write-fasta-one κs a r r′ e e′ p q = (p .0 ∙ sym (q .0), p .1 ∙ sym (q .1))
+
+pub read-fasta-one : (κs : Lfts 3) (a : Dens κs read-fasta.ps) (r r′ : resT read-fasta.r κs .Denot)
+    (e e′ : AtExit (endedOf 3 read-fasta.ps read-fasta.r) κs)
+    → read-fasta-reads.Post κs a r e
+    → read-fasta-reads.Post κs a r′ e′
+    → (r ≡ r′) × (now (e .1 .0) ≡ now (e′ .1 .0)) × (now (e .1 .1 .0) ≡ now (e′ .1 .1 .0))
+read-fasta-one κs a r r′ e e′ p q = (p .0 ∙ sym (q .0), p .1 .0 ∙ sym (q .1 .0), p .1 .1 ∙ sym (q .1 .1))
 
 -- what build answers, and the output afterwards
 pub build-one : (κs : Lfts 2) (a : Dens κs build.ps) (r r′ : resT build.r κs .Denot) (e e′ : AtExit (endedOf 2 build.ps build.r) κs)

@@ -10,6 +10,9 @@ use Rattle.answers.proofs.Laws.{given-not-refused}
 use Rattle.answers.proofs.Only.{Numbered, none, also, only-append, only-refused}
 use Rattle.block.specs.Block.{fetchTests}
 use Rattle.block.proofs.Laws.{fetch-numbered}
+use Rattle.fasta.specs.Writing as fasta
+use Rattle.fasta.specs.Reading.{reading}
+use Rattle.fasta.proofs.RefusalNumbers as fasta-numbers
 use Rattle.entries.specs.declared.Slot.{Slot}
 use Rattle.entries.specs.Slot.{entriesIn}
 use Rattle.layout.specs.Layout.{toldBy}
@@ -34,7 +37,7 @@ use Rattle.counting.specs.Counting.{countTests, Counted, OfCard, OfLists, Count
 use Rattle.counting.specs.Counting as counting
 use Rattle.counting.proofs.CountingLaws.{tests-numbered}
 use Rattle.firmware.specs.declared.building.BuildAnswer.{BuildAnswer}
-use Rattle.firmware.specs.Flat.{admitAnswer, entryAnswer, stepAnswer, heldAnswer, writeAnswer}
+use Rattle.firmware.specs.Flat.{admitAnswer, entryAnswer, stepAnswer, heldAnswer, writeAnswer, fastaAnswer}
 use Rattle.firmware.specs.Building.{buildAnswer, Told}
 use Rattle.firmware.specs.declared.count.CountAnswer.{CountAnswer}
 use Rattle.firmware.specs.Counting.{countAnswer}
@@ -66,9 +69,21 @@ pub export-tells : (limit : ℕ) (card : List ℕ) (room : ℕ) {n p : ℕ} → 
     → 0 < writeAnswer (exporting limit card room) .number
 export-tells limit card room e = rw e (exporting-number limit card room e)
 
--- and of these three what is given has 0
+pub write-fasta-tells : (name letters : List ℕ) (room : ℕ) {n p : ℕ} → fasta.writing name letters room ≡ refused n p
+    → 0 < writeAnswer (fasta.writing name letters room) .number
+write-fasta-tells name letters room e = rw e (fasta-numbers.writing-number name letters room e)
+
+-- and of these four what is given has 0
 pub write-zero : {a : Answer ℕ} {n : ℕ} → a ≡ given n → writeAnswer a .number ≡ 0
 write-zero e = rw e refl
+
+-- reading a FASTA record, both ways
+module _ (r : List ℕ) (names letters : ℕ) where
+  pub read-fasta-tells : {n p : ℕ} → reading r names letters ≡ refused n p → 0 < fastaAnswer (reading r names letters) .number
+  read-fasta-tells e = rw e (fasta-numbers.reading-number r names letters e)
+
+  pub read-fasta-zero : {parts : ℕ × ℕ} → reading r names letters ≡ given parts → fastaAnswer (reading r names letters) .number ≡ 0
+  read-fasta-zero e = rw e refl
 
 -- ---- build, whose contract is a relation: both ways
 

@@ -6,7 +6,8 @@
 --   stepAnswer r       == a step of the reading head: the entry and the moved head, or the end
 --   heldAnswer r       == the companion of a fetch
 --   partAnswer k r     == fetching block k: where in the card it starts, and its bytes
---   writeAnswer r      == writing and importing: the card's length; exporting: the list's
+--   writeAnswer r      == writing and importing: the card's length; exporting: the list's; writing a FASTA record: the record's
+--   fastaAnswer r      == reading a FASTA record: the lengths of its name and of its letters
 -- Build and the number of builds have their own files, `Building` and `Counting`. Assumes nothing.
 use Prim.Native.Nat.{ℕ, _*_}
 use Rattle.answers.specs.Answer.{Answer, given, refused, Sound, sound}
@@ -23,6 +24,7 @@ use Rattle.firmware.specs.declared.StepAnswer.{StepAnswer}
 use Rattle.firmware.specs.declared.HeldAnswer.{HeldAnswer}
 use Rattle.firmware.specs.declared.PartAnswer.{PartAnswer}
 use Rattle.firmware.specs.declared.writing.WriteAnswer.{WriteAnswer}
+use Rattle.firmware.specs.declared.record.FastaAnswer.{FastaAnswer}
 
 -- "one place, two places, or a span"
 abbrev pub shapeOf : Places → Shape
@@ -66,3 +68,8 @@ partAnswer k (refused n p) = record { at = 0; length = 0 }
 abbrev pub writeAnswer : Answer ℕ → WriteAnswer
 writeAnswer (given n) = record { number = 0; place = 0; length = n }
 writeAnswer (refused n p) = record { number = n; place = p; length = 0 }
+
+-- request 1: "gives name and letters again"
+abbrev pub fastaAnswer : Answer (ℕ × ℕ) → FastaAnswer
+fastaAnswer (given (n, k)) = record { number = 0; place = 0; name = n; letters = k }
+fastaAnswer (refused n p) = record { number = n; place = p; name = 0; letters = 0 }

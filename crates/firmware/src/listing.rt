@@ -2,7 +2,7 @@
 ghost use mathlib.Core.Path.{_≡_};
 ghost use lib.ListN.{length};
 ghost use Rattle.layout.specs.Bounds.{mostEntries};
-ghost use Rattle.writer.specs.Writing.{outputAfter};
+ghost use Rattle.answers.specs.Answer.{outputAfter};
 ghost use Rattle.importing.specs.Importing.{cardIn, importing};
 ghost use Rattle.exporting.specs.Exporting.{listOf, exporting};
 ghost use Rattle.firmware.specs.Flat.{writeAnswer};

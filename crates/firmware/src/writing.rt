@@ -1,18 +1,18 @@
 // The writer, for C.
 ghost use mathlib.Core.Path.{_≡_};
 ghost use lib.ListN.{length};
-ghost use Rattle.answers.specs.Answer.{given, refused};
+ghost use Rattle.answers.specs.Answer.{given, refused, outputAfter};
 ghost use Rattle.layout.specs.Bounds.{mostEntries};
 ghost use Rattle.layout.specs.Card.{cardOf};
 ghost use Rattle.lists.specs.Lists.{formatFor};
-ghost use Rattle.writer.specs.Writing.{writing, saysWritten, outputAfter};
+ghost use Rattle.writer.specs.Writing.{writing, saysWritten};
 ghost use Rattle.entries.specs.Slot.{slotFrom};
 ghost use Rattle.firmware.specs.Flat.{writeAnswer};
 use answers::Refusal;
 use writer::Written;
 
-// What writing, importing and exporting answer. The number is 0 where a card or a list was written, with its length in bytes; else it is the
-// refusal's, with its place, and the length is 0.
+// What writing, importing, exporting and writing a FASTA record answer. The number is 0 where a card, a list or a record was written, with its
+// length in bytes; else it is the refusal's, with its place, and the length is 0.
 #[repr(C)]
 pub struct WriteAnswer {
     pub number: usize,

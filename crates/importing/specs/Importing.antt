@@ -13,13 +13,13 @@ use mathlib.Core.List.{List, [], _∷_, _++_}
 use lib.ListN.{length}
 use lib.Dec.{leb}
 use Rattle.answers.specs.Numbers.{Length, Count, Places, Room, Text, Mixed, Uneven, Zero}
-use Rattle.answers.specs.Answer.{Answer, test, first}
+use Rattle.answers.specs.Answer.{Answer, test, first, outputAfter}
 use Rattle.entries.specs.Slot.{slotFrom}
 use Rattle.layout.specs.Layout.{sizeOf}
 use Rattle.layout.specs.Card.{cardOf}
 use Rattle.lists.specs.Lists.{formatFor, listsTests}
 use Rattle.writer.specs.declared.Written.{Written}
-use Rattle.writer.specs.Writing.{saysWritten, outputAfter}
+use Rattle.writer.specs.Writing.{saysWritten}
 use Rattle.probes.specs.Lines.{linesIn}
 use Rattle.probes.specs.Testing.{outlineOf, textTests, kindOf}
 use Rattle.probes.specs.Listing.{wordsOf, onesOf, twosOf}

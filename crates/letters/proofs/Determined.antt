@@ -11,6 +11,8 @@ use Rattle.letters.proofs.letter_of.Kinds as letter-of
 use Rattle.letters.proofs.letter_of.Reads as letter-of-reads
 use Rattle.letters.proofs.code_of.Kinds as code-of
 use Rattle.letters.proofs.code_of.Reads as code-of-reads
+use Rattle.letters.proofs.is_letter.Kinds as is-letter
+use Rattle.letters.proofs.is_letter.Reads as is-letter-reads
 
 -- the enum, had back from what it says
 codeBack : Reading → Code
@@ -33,3 +35,9 @@ module _ (κs : Lfts 0) where
   pub code-of-one : (a : Dens κs code-of.ps) (r r′ : resT code-of.r κs .Denot) (e e′ : AtExit (endedOf 0 code-of.ps code-of.r) κs)
       → code-of-reads.Post κs a r e → code-of-reads.Post κs a r′ e′ → r ≡ r′
   code-of-one a r r′ e e′ p q = sym (code-back r) ∙ ap codeBack (p ∙ sym q) ∙ code-back r′
+
+  -- whether it is a letter
+  pub is-letter-one : (a : Dens κs is-letter.ps) (r r′ : resT is-letter.r κs .Denot)
+      (e e′ : AtExit (endedOf 0 is-letter.ps is-letter.r) κs)
+      → is-letter-reads.Post κs a r e → is-letter-reads.Post κs a r′ e′ → r ≡ r′
+  is-letter-one a r r′ e e′ p q = p ∙ sym q

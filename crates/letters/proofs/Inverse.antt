@@ -1,6 +1,6 @@
 -- The table serves both ways: spelling a code and reading a letter are inverse, and "alphabetical order is the order of the codes".
 -- Assumes nothing.
-use mathlib.Core.Path.{_≡_, refl}
+use mathlib.Core.Path.{_≡_, refl, ap}
 use mathlib.Core.Bool.{Bool, true, false, cond}
 use mathlib.Core.List.{List, [], _∷_}
 use mathlib.Core.Logic.{_↔_}
@@ -9,7 +9,7 @@ use native.Mathlib.Omega.{arith}
 use lib.ListN.{length, getD}
 use lib.Dec.{eqb, ltb}
 use borrow.Author.Tests.{eqb-true, ltb-true, ltb-false}
-use Rattle.letters.specs.Letters.{codes, letters, letterOf, Reading, code, noLetter, searched, codeOf}
+use Rattle.letters.specs.Letters.{codes, letters, letterOf, Reading, code, noLetter, searched, codeOf, isCode, isLetter}
 
 -- the letter of a code reads as that code
 pub code-letter : (c : ℕ) → c < codes → codeOf (letterOf c) ≡ code c
@@ -57,6 +57,26 @@ no-letter b = (λ e c h q. let z : _≡_ {A = ℕ} 0 1 = cc (code-letter c h) in
     go : ((c : ℕ) → c < codes → letterOf c ≡ b → ⊥) → (r : Reading) → codeOf b ≡ r → codeOf b ≡ noLetter
     go n noLetter q = q
     go n (code c) q = let s = letter-code b c q in absurd (n c (s .0) (s .1))
+
+-- spelling a code gives a letter
+pub letter-is : (c : ℕ) → c < codes → isLetter (letterOf c) ≡ true
+letter-is c h = ap isCode (code-letter c h)
+
+-- each letter is a capital in ASCII
+told-capital : (c : ℕ) → c < codes → (65 ≤ letterOf c) × (letterOf c ≤ 90)
+unfolding letterOf letters
+told-capital zero h = (omega arith, omega arith)
+told-capital (suc zero) h = (omega arith, omega arith)
+told-capital (suc (suc zero)) h = (omega arith, omega arith)
+told-capital (suc (suc (suc zero))) h = (omega arith, omega arith)
+told-capital (suc (suc (suc (suc c)))) h = absurd (omega arith)
+
+pub letter-capital : (b : ℕ) → isLetter b ≡ true → (65 ≤ b) × (b ≤ 90)
+letter-capital b e = read (codeOf b) refl e
+  where
+    read : (r : Reading) → codeOf b ≡ r → isCode r ≡ true → (65 ≤ b) × (b ≤ 90)
+    read noLetter q e = let z : _≡_ {A = ℕ} 0 1 = cc in absurd (omega arith)
+    read (code c) q e = let s = letter-code b c q in let t = told-capital c (s .0) in (omega (arith, s .1, t .0), omega (arith, s .1, t .1))
 
 -- each letter stands before the next
 letter-next : (c : ℕ) → suc c < codes → letterOf c < letterOf (suc c)

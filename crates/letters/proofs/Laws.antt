@@ -1,11 +1,13 @@
 -- The laws of the table, searched from a code on. No contract cites this file. Assumes nothing.
-use mathlib.Core.Path.{_≡_, refl, sym}
+use mathlib.Core.Path.{_≡_, refl, sym, _∙_}
+use mathlib.Core.Bool.{Bool, true, false, _||_, cond}
 use Prim.Native.Nat.{ℕ, _+_, _≤_, _<_}
 use native.Mathlib.Numerals.{add-one}
 use lib.ListN.{getD, drop, drop-of-length-le}
 use lib.Seq.{drop-cons}
-use borrow.Author.Tests.{eq-eqb, ne-eqb}
-use Rattle.letters.specs.Letters.{codes, letters, letterOf, Reading, code, noLetter, searched, codeOf}
+use lib.Dec.{eqb}
+use borrow.Author.Tests.{eqb-true, eqb-false, eq-eqb, ne-eqb}
+use Rattle.letters.specs.Letters.{codes, letters, letterOf, Reading, code, noLetter, searched, codeOf, isCode, isLetter}
 
 -- reading a byte by the letters from the code c on
 unfoldable pub from : ℕ → ℕ → Reading
@@ -31,3 +33,22 @@ module _ (b c : ℕ) where
   pub from-end : codes ≤ c → from c b ≡ noLetter
   unfolding from searched letters
   from-end h = rw (drop-of-length-le letters h)
+
+-- a byte is a letter where it is one of the table
+pub letter-compared : (b : ℕ) → (((eqb b 65 || eqb b 67) || eqb b 71) || eqb b 84) ≡ isLetter b
+unfolding codeOf searched letters
+letter-compared b = rw (eqb-turned 65 b, eqb-turned 67 b, eqb-turned 71 b, eqb-turned 84 b) (go (eqb b 65) (eqb b 67) (eqb b 71) (eqb b 84))
+  where
+    eqb-turned : (a b : ℕ) → eqb a b ≡ eqb b a
+    eqb-turned a b = turned (eqb b a) refl
+      where
+        turned : (t : Bool) → eqb b a ≡ t → eqb a b ≡ eqb b a
+        turned true q = eq-eqb a b (sym (eqb-true b a q)) ∙ sym q
+        turned false q = ne-eqb a b (λ e. eqb-false b a q (sym e)) ∙ sym q
+
+    go : (t u v w : Bool) → (((t || u) || v) || w) ≡ isCode (cond t (code 0) (cond u (code 1) (cond v (code 2) (cond w (code 3) noLetter))))
+    go true u v w = refl
+    go false true v w = refl
+    go false false true w = refl
+    go false false false true = refl
+    go false false false false = refl

@@ -3,10 +3,12 @@
 --   letterOf c           == the letter of the code c
 --   searched c xs b      == where the byte b first stands in xs, whose first place is counted as c
 --   codeOf b             == the code that the byte b is the letter of, or that it is no letter
+--   isCode r             == whether the reading r is a code
+--   isLetter b           == whether the byte b is a letter
 --   saysCode r           == what the enum `Code` says
 -- Assumes nothing.
 use Prim.Native.Nat.{ℕ, suc}
-use mathlib.Core.Bool.{cond}
+use mathlib.Core.Bool.{Bool, true, false, cond}
 use mathlib.Core.List.{List, [], _∷_}
 use lib.ListN.{getD}
 use lib.Dec.{eqb}
@@ -34,6 +36,13 @@ searched c (x ∷ xs) b = cond (eqb x b) (code c) (searched (suc c) xs b)
 
 unfoldable pub codeOf : ℕ → Reading
 codeOf b = searched 0 letters b
+
+abbrev pub isCode : Reading → Bool
+isCode noLetter = false
+isCode (code c) = true
+
+abbrev pub isLetter : ℕ → Bool
+isLetter b = isCode (codeOf b)
 
 -- each case of the enum
 abbrev pub saysCode : Code → Reading

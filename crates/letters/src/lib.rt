@@ -1,7 +1,7 @@
 // The letters and their codes: one table, used forward to spell a code and searched to read a letter.
 ghost use mathlib.Core.Path.{_≡_};
 ghost use Prim.Native.Nat.{_<_};
-ghost use Rattle.letters.specs.Letters.{codes, letterOf, codeOf, saysCode};
+ghost use Rattle.letters.specs.Letters.{codes, letterOf, codeOf, isLetter, saysCode};
 
 // How many codes there are.
 const CODES: usize = 4;
@@ -34,4 +34,11 @@ pub fn code_of(byte: u8) -> Code
         code += 1;
     }
     Code::NoLetter
+}
+
+// Whether a byte is a letter, for any byte: no branch is taken, so that the compiler can look at many bytes at once.
+pub fn is_letter(byte: u8) -> bool
+    ensures { λ r. ⌜ r ≡ isLetter byte ⌝ }
+{
+    (byte == LETTERS[0]) | (byte == LETTERS[1]) | (byte == LETTERS[2]) | (byte == LETTERS[3])
 }

@@ -28,7 +28,7 @@ use Rattle.spans.proofs.Tables.{spans-settle}
 use Rattle.builds.specs.Building.{lettersIn, slotsOn, tells, on-spans}
 use Rattle.builds.proofs.CardLaws.{has-room}
 use Rattle.text.specs.Text.{ascii, digitsIn, decimal}
-use Rattle.lines.specs.Lines.{programBudget, lettersRoom, kindName, cardLine, linesOf, Reports}
+use Rattle.lines.specs.Lines.{programBudget, lettersRoom, kindName, cardLine, verdictLine, linesOf, Reports}
 use Rattle.lines.specs.CountLine.{countLine}
 
 -- ---- the S1 card
@@ -37,7 +37,7 @@ abbrev s1-format : Format
 s1-format = record { kind = span; l = 2; m = 4 }
 
 s1-lines : linesOf s1-format (given (settled (s1 .verdict) (s1 .placements))) ≡ ascii "CARD span 2 4\nseveral ACAGA 8\n"
-unfolding linesOf cardLine kindName decimal digitsIn letters letterOf
+unfolding linesOf verdictLine cardLine kindName decimal digitsIn letters letterOf
 s1-lines = refl
 
 s1-admitted : admission mostEntries card.s1 ≡ given s1-format
@@ -84,7 +84,7 @@ pub other-lines : map (linesOf (record { kind = pair; l = 12; m = 504 }))
     ∷ ascii "refused 30 503\n"
     ∷ []
     )
-unfolding linesOf cardLine kindName decimal digitsIn letters letterOf
+unfolding linesOf verdictLine cardLine kindName decimal digitsIn letters letterOf
 other-lines = refl
 
 -- ---- `count_builds`

@@ -41,7 +41,7 @@ module _ {limit : ℕ} {card other : List ℕ} (alike : Alike limit card other) 
       × (first (buildTests limit other room) sound ≡ refused (alike .number) (alike .place))
   building-refused room = (reader-refuses limit card room (alike .here), reader-refuses limit other room (alike .there))
 
-  said-too : {budget room : ℕ} {a : Answer Outcome} → Says limit card budget room a → Says limit other budget room a
+  pub said-too : {budget room : ℕ} {a : Answer Outcome} → Says limit card budget room a → Says limit other budget room a
   said-too {room} (tells e means) = absurd (given-not-refused (sym e ∙ building-refused room .0))
   said-too {room} (refuses e) = refuses (building-refused room .1 ∙ sym (building-refused room .0) ∙ e)
 

@@ -15,7 +15,7 @@ use Rattle.layout.specs.Layout.{toldBy}
 use Rattle.card.specs.Reading.{readingOrder}
 use Rattle.card.proofs.FetchingLaws.{order-admits}
 use Rattle.card.proofs.RefusalNumbers.{reader-below}
-use Rattle.sequence.specs.Verdict.{sole, several, noBuild, Outcome, settled, unsettled}
+use Rattle.sequence.specs.Verdict.{Outcome}
 use Rattle.sequence.proofs.FillingLaws.{lt-or-le}
 use Rattle.builds.specs.Building.{buildTests, Says, refuses}
 use Rattle.builds.proofs.CardLaws.{reader-refuses, has-room}
@@ -94,10 +94,7 @@ not-printed : (f : Format) (a : Answer Outcome) → ((n p : ℕ) → a ≡ refus
     → linesOf f a ≡ ascii "refused 12 0\n"
     → ⊥
 unfolding linesOf cardLine
-not-printed f (given (settled (sole s) n)) other e = capital e
-not-printed f (given (settled (several s) n)) other e = capital e
-not-printed f (given (settled noBuild n)) other e = capital e
-not-printed f (given (unsettled n)) other e = capital e
+not-printed f (given o) other e = capital e
 not-printed f (refused n p) other e =
     let byte = ap (λ (xs : List ℕ). getD xs (length (ascii "refused ") + 1) 0) e in
     ⊎-elim (λ h. second-byte n _ h byte) (λ h. wider-byte _ h byte) (other n p refl)

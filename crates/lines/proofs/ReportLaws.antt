@@ -1,64 +1,70 @@
 -- Laws of the reports of `build` and `settle`: what is printed by an answer and the letters that it left is what is printed by what is said
 -- of the card. No contract cites this file. Assumes nothing.
-use mathlib.Core.Path.{_≡_, refl}
-use mathlib.Core.List.{List, _++_, map}
+use mathlib.Core.Path.{_≡_, refl, ap}
+use mathlib.Core.List.{List, [], _∷_, _++_}
 use Prim.Native.Nat.{ℕ, _≤_}
-use native.Mathlib.Omega.{arith}
-use lib.ListN.{length, drop, length-append, length-map}
+use lib.ListN.{length}
+use types.Run.{OneOf, miss}
+use denote.Enum.Declared.{tagOf}
+use Rattle.answers.specs.declared.Refusal.{Refusal}
 use Rattle.answers.specs.Answer.{Answer, given, refused}
-use Rattle.letters.specs.Letters.{letterOf}
 use Rattle.block.specs.Block.{blockBytes}
 use Rattle.entries.specs.declared.Format.{Format}
 use Rattle.layout.specs.Layout.{toldBy}
 use Rattle.card.proofs.FetchingLaws.{order-admits}
 use Rattle.sequence.specs.Verdict.{sole, several, noBuild, Outcome, settled, unsettled}
 use Rattle.builds.specs.declared.BuildAnswer.{BuildAnswer}
+use Rattle.builds.specs.declared.BuildAnswer.the-variants.{Sole, Several, None, Unsettled, Refused}
+use Rattle.builds.proofs.BuildAnswer.{the-type}
 use Rattle.builds.specs.Building.{buildTests, Says, tells, refuses, answerOf, lettersAfter, Builds}
-use Rattle.builds.proofs.FromLaws.{letters-start}
 use Rattle.builds.proofs.CardLaws.{order-held}
 use Rattle.narrow.specs.Settling.{OfCard, Settles}
 use Rattle.narrow.specs.Settling as settling
 use Rattle.narrow.proofs.TestLaws.{tests-hold}
-use Rattle.text.specs.Text.{Printed}
+use Rattle.text.specs.Text.{refusalLine, Printed}
 use Rattle.text.specs.Putting.{Put}
 use Rattle.text.proofs.PrintedLaws.{put-printed}
-use Rattle.lines.specs.Lines.{programBudget, lettersRoom, linesOf, ReportsBy, Reports}
+use Rattle.text.proofs.PuttingLaws.{put-as}
+use Rattle.lines.specs.Lines.{programBudget, lettersRoom, cardLine, linesOf, ReportsBy, Reports}
 use Rattle.lines.specs.SettleLines.{SettleReports}
-use Rattle.lines.specs.ByAnswer.{linesBy, lengthIn, IsGiven, Tellable}
+use Rattle.lines.specs.ByAnswer.{verdictBy, linesBy, IsGiven, Tellable}
+use Rattle.lines.proofs.VerdictLaws.{verdict-said, length-said}
 
--- ---- the letters at the start of the buffer
-
-letters-fit : (s before : List ℕ) → length s ≤ length (map letterOf s ++ drop (length s) before)
-letters-fit s before = omega (arith, length-append (map letterOf s) (drop (length s) before), length-map s letterOf)
+-- ---- the lines by an answer
 
 lines-said : (f : Format) (before : List ℕ) (a : Answer Outcome) → linesBy f (answerOf a) (lettersAfter a before) ≡ linesOf f a
 unfolding linesOf
-lines-said f before (given (settled (sole s) n)) = rw (letters-start s before)
-lines-said f before (given (settled (several s) n)) = rw (letters-start s before)
-lines-said f before (given (settled noBuild n)) = refl
-lines-said f before (given (unsettled n)) = refl
+lines-said f before (given (settled (sole s) n)) = ap (_++_ (cardLine f)) (verdict-said before (settled (sole s) n))
+lines-said f before (given (settled (several s) n)) = ap (_++_ (cardLine f)) (verdict-said before (settled (several s) n))
+lines-said f before (given (settled noBuild n)) = ap (_++_ (cardLine f)) (verdict-said before (settled noBuild n))
+lines-said f before (given (unsettled n)) = ap (_++_ (cardLine f)) (verdict-said before (unsettled n))
 lines-said f before (refused n p) = refl
 
-length-said : (before : List ℕ) (a : Answer Outcome) → lengthIn (answerOf a) ≤ length (lettersAfter a before)
-length-said before (given (settled (sole s) n)) = letters-fit s before
-length-said before (given (settled (several s) n)) = letters-fit s before
-length-said before (given (settled noBuild n)) = omega arith
-length-said before (given (unsettled n)) = omega arith
-length-said before (refused n p) = omega arith
-
--- ---- the lines by each case of an answer
-
-module _ {card letters : List ℕ} {r a : BuildAnswer} (can : Tellable card r letters) (e : r ≡ a) where
-  pub card-there : IsGiven a → blockBytes ≤ length card
-  card-there is = can .there (rw e is)
-
-  pub letters-there : lengthIn a ≤ length letters
-  letters-there = rw e at (can .letters-in)
-
-pub put-case : (f : Format) (letters : List ℕ) {r a : BuildAnswer} {out after : List ℕ} {n : ℕ} → r ≡ a
-    → Put (linesBy f a letters) 0 out n after
+-- a refusal, and no refusal
+pub refused-lines : (f : Format) (letters : List ℕ) {r : BuildAnswer} {x : Refusal} {out after : List ℕ} {n : ℕ} → r ≡ Refused x
+    → Put (refusalLine (x .number) (x .place)) 0 out n after
     → Put (linesBy f r letters) 0 out n after
-put-case f letters e put = rw e put
+refused-lines f letters e put = rw e put
+
+given-by : (f : Format) (letters : List ℕ) (r : BuildAnswer) → IsGiven r → cardLine f ++ verdictBy r letters ≡ linesBy f r letters
+given-by f letters (Sole n k) is = refl
+given-by f letters (Several n k) is = refl
+given-by f letters (None k) is = refl
+given-by f letters (Unsettled k) is = refl
+given-by f letters (Refused x) is = absurd is
+
+pub given-lines : (f : Format) (letters : List ℕ) (r : BuildAnswer) {out after : List ℕ} {n : ℕ} → IsGiven r
+    → Put (cardLine f ++ verdictBy r letters) 0 out n after
+    → Put (linesBy f r letters) 0 out n after
+given-lines f letters r is put = put-as put (given-by f letters r is)
+
+-- the first four cases are no refusal
+pub given-case : (r : BuildAnswer) → OneOf (0 ∷ 1 ∷ 2 ∷ 3 ∷ []) (tagOf the-type r) → IsGiven r
+given-case (Sole n k) is = tt
+given-case (Several n k) is = tt
+given-case (None k) is = tt
+given-case (Unsettled k) is = tt
+given-case (Refused x) is = absurd (miss (0 ∷ 1 ∷ 2 ∷ 3 ∷ []) 4 tt is)
 
 -- ---- what was answered, and the letters after it
 

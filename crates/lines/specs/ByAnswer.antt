@@ -1,5 +1,6 @@
 -- The lines by an answer and the letters that it left: what an inner function puts. A reader of the reports' contracts needs none of it.
---   linesBy f r letters     == the lines, by an answer r and a buffer with the letters at its start
+--   verdictBy r letters     == line 2, by an answer r and a buffer with the letters at its start; a refusal has none
+--   linesBy f r letters     == the lines, by the same
 --   lengthIn r              == the length of the sequence that r tells
 --   IsGiven r               == r is no refusal
 --   Tellable card r letters == a card that is not refused is there, and so are the letters that r tells
@@ -14,11 +15,18 @@ use Rattle.builds.specs.declared.BuildAnswer.the-variants.{Sole, Several, None,
 use Rattle.text.specs.Text.{ascii, decimal, line, refusalLine}
 use Rattle.lines.specs.Lines.{cardLine}
 
+abbrev pub verdictBy : BuildAnswer → List ℕ → List ℕ
+verdictBy (Sole n k) letters = line (ascii "sole") (take n letters ∷ decimal k ∷ [])
+verdictBy (Several n k) letters = line (ascii "several") (take n letters ∷ decimal k ∷ [])
+verdictBy (None k) letters = line (ascii "none") (decimal k ∷ [])
+verdictBy (Unsettled k) letters = line (ascii "unsettled") (decimal k ∷ [])
+verdictBy (Refused r) letters = []
+
 abbrev pub linesBy : Format → BuildAnswer → List ℕ → List ℕ
-linesBy f (Sole n k) letters = cardLine f ++ line (ascii "sole") (take n letters ∷ decimal k ∷ [])
-linesBy f (Several n k) letters = cardLine f ++ line (ascii "several") (take n letters ∷ decimal k ∷ [])
-linesBy f (None k) letters = cardLine f ++ line (ascii "none") (decimal k ∷ [])
-linesBy f (Unsettled k) letters = cardLine f ++ line (ascii "unsettled") (decimal k ∷ [])
+linesBy f (Sole n k) letters = cardLine f ++ verdictBy (Sole n k) letters
+linesBy f (Several n k) letters = cardLine f ++ verdictBy (Several n k) letters
+linesBy f (None k) letters = cardLine f ++ verdictBy (None k) letters
+linesBy f (Unsettled k) letters = cardLine f ++ verdictBy (Unsettled k) letters
 linesBy f (Refused r) letters = refusalLine (r .number) (r .place)
 
 abbrev pub lengthIn : BuildAnswer → ℕ

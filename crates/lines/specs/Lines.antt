@@ -3,6 +3,7 @@
 --   lettersRoom limit        == the room that it lends for the letters: those of the longest sequence
 --   kindName kind            == `pair` or `span`
 --   cardLine f               == line 1, of a card of this format
+--   verdictLine o            == line 2, of this outcome
 --   linesOf f a              == all that is printed, where a is what is said of a card of this format
 --   ReportsBy Says card bytes
 --                            == what is printed for the card, where Says tells what is said of it
@@ -39,11 +40,14 @@ unfoldable pub cardLine : Format → List ℕ
 cardLine f = line (ascii "CARD") (kindName (f .kind) ∷ decimal (f .l) ∷ decimal (f .m) ∷ [])
 
 -- "Line 2: verdict, sequence, placements. Other second lines are `sole` with the same fields, and `none` or `unsettled` with placements."
+unfoldable pub verdictLine : Outcome → List ℕ
+verdictLine (settled (sole s) n) = line (ascii "sole") (map letterOf s ∷ decimal n ∷ [])
+verdictLine (settled (several s) n) = line (ascii "several") (map letterOf s ∷ decimal n ∷ [])
+verdictLine (settled noBuild n) = line (ascii "none") (decimal n ∷ [])
+verdictLine (unsettled n) = line (ascii "unsettled") (decimal n ∷ [])
+
 unfoldable pub linesOf : Format → Answer Outcome → List ℕ
-linesOf f (given (settled (sole s) n)) = cardLine f ++ line (ascii "sole") (map letterOf s ∷ decimal n ∷ [])
-linesOf f (given (settled (several s) n)) = cardLine f ++ line (ascii "several") (map letterOf s ∷ decimal n ∷ [])
-linesOf f (given (settled noBuild n)) = cardLine f ++ line (ascii "none") (decimal n ∷ [])
-linesOf f (given (unsettled n)) = cardLine f ++ line (ascii "unsettled") (decimal n ∷ [])
+linesOf f (given o) = cardLine f ++ verdictLine o
 linesOf f (refused n p) = refusalLine n p
 
 pub record ReportsBy (Says : Answer Outcome → Type 0) (card bytes : List ℕ) : Type 0 where

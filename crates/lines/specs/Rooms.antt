@@ -11,6 +11,10 @@ nameBytes = 4
 abbrev pub cardRoom : ℕ
 cardRoom = 5 + nameBytes + 3 + mostDigits + mostDigits
 
+-- line 2: the longest name of a verdict, so many letters and a number with a space before each, and the end
+abbrev pub verdictRoom : ℕ → ℕ
+verdictRoom letters = 9 + 3 + letters + mostDigits
+
 -- the line of a number of builds: `builds 2^`, the exponent, and the end
 abbrev pub powerRoom : ℕ
 powerRoom = 9 + mostDigits + 1

@@ -1,25 +1,25 @@
 // What the programs print for a card. `build`: line 1 with its kind, l and m and line 2 with its verdict, or the one line of a refusal.
-// `settle` and `count_builds` have their own files.
+// `settle` and `count_builds` have their own files, and so has line 2.
 pub mod count;
 pub mod settle;
+pub mod verdict;
 
-ghost use mathlib.Core.List.{[], _∷_, _++_};
 ghost use Prim.Native.Nat.{_+_, _≤_};
 ghost use lib.ListN.{length};
 ghost use Rattle.block.specs.Block.{blockBytes};
 ghost use Rattle.layout.specs.Layout.{toldBy};
 ghost use Rattle.layout.specs.Bounds.{mostEntries};
-ghost use Rattle.text.specs.Text.{decimal, line, Printed};
-ghost use Rattle.text.specs.Putting.{mostDigits, Put};
+ghost use Rattle.text.specs.Text.{Printed};
+ghost use Rattle.text.specs.Putting.{Put};
 ghost use Rattle.lines.specs.Lines.{lettersRoom, kindName, cardLine, Reports};
 ghost use Rattle.lines.specs.ByAnswer.{linesBy, Tellable};
 ghost use Rattle.lines.specs.Rooms.{nameBytes, cardRoom};
 use builds::BuildAnswer;
 
 // The budget that `build` uses.
-const BUDGET: u32 = 1000000;
+pub const BUDGET: u32 = 1000000;
 // The letters of the longest sequence.
-const LETTERS: usize = layout::MOST + entries::MOST_LENGTH - 1;
+pub const LETTERS: usize = layout::MOST + entries::MOST_LENGTH - 1;
 // Room for the lines: for the letters, and for all else that stands on them.
 pub const LINES: usize = LETTERS + 100;
 
@@ -47,53 +47,6 @@ fn put_card(out: &mut [u8], card: &[u8]) -> usize
     text::put_two(out, l_at, f.l, f.m)
 }
 
-// Line 2, with a sequence.
-fn put_sequence(out: &mut [u8], at: usize, verdict: &[u8], letters: &[u8], n: u32) -> usize
-    requires { ⌜ at + length (now verdict) + 1 + length (now letters) + 2 + mostDigits ≤ length (now out) ⌝ }
-    ensures { λ r. ⌜
-        Put (line (now (verdict .entry)) (now (letters .entry) ∷ decimal n ∷ [])) at (now (out .entry)) r (now (out .exit))
-        ⌝ }
-{
-    let letters_at = text::put_text(out, at, verdict);
-    let n_at = text::put_field(out, letters_at, letters);
-    text::put_last(out, n_at, n as usize)
-}
-
-// Line 2, without one.
-fn put_placements(out: &mut [u8], at: usize, verdict: &[u8], n: u32) -> usize
-    requires { ⌜ at + length (now verdict) + 2 + mostDigits ≤ length (now out) ⌝ }
-    ensures { λ r. ⌜ Put (line (now (verdict .entry)) (decimal n ∷ [])) at (now (out .entry)) r (now (out .exit)) ⌝ }
-{
-    let n_at = text::put_text(out, at, verdict);
-    text::put_last(out, n_at, n as usize)
-}
-
-// Both lines, with a sequence.
-fn put_card_sequence(out: &mut [u8], card: &[u8], verdict: &[u8], letters: &[u8], n: u32) -> usize
-    requires { ⌜ blockBytes ≤ length (now card) ⌝ }
-    requires { ⌜ cardRoom + length (now verdict) + length (now letters) + 3 + mostDigits ≤ length (now out) ⌝ }
-    ensures { λ r. ⌜
-        Put (cardLine (toldBy (now (card .entry))) ++ line (now (verdict .entry)) (now (letters .entry) ∷ decimal n ∷ [])) 0
-        (now (out .entry)) r (now (out .exit))
-        ⌝ }
-{
-    let at = put_card(out, card);
-    put_sequence(out, at, verdict, letters, n)
-}
-
-// Both lines, without one.
-fn put_card_placements(out: &mut [u8], card: &[u8], verdict: &[u8], n: u32) -> usize
-    requires { ⌜ blockBytes ≤ length (now card) ⌝ }
-    requires { ⌜ cardRoom + length (now verdict) + 2 + mostDigits ≤ length (now out) ⌝ }
-    ensures { λ r. ⌜
-        Put (cardLine (toldBy (now (card .entry))) ++ line (now (verdict .entry)) (decimal n ∷ [])) 0
-        (now (out .entry)) r (now (out .exit))
-        ⌝ }
-{
-    let at = put_card(out, card);
-    put_placements(out, at, verdict, n)
-}
-
 // The lines by an answer, and by the letters that it left.
 fn put_answer(out: &mut [u8; LINES], card: &[u8], answer: BuildAnswer, letters: &[u8]) -> usize
     requires { ⌜ Tellable (now card) answer (now letters) ⌝ }
@@ -101,11 +54,11 @@ fn put_answer(out: &mut [u8; LINES], card: &[u8], answer: BuildAnswer, letters: 
     ensures { λ r. ⌜ Put (linesBy (toldBy (now (card .entry))) answer (now (letters .entry))) 0 (now (out .entry)) r (now (out .exit)) ⌝ }
 {
     match answer {
-        BuildAnswer::Sole(n, k) => put_card_sequence(out, card, b"sole", &letters[..n], k),
-        BuildAnswer::Several(n, k) => put_card_sequence(out, card, b"several", &letters[..n], k),
-        BuildAnswer::None(k) => put_card_placements(out, card, b"none", k),
-        BuildAnswer::Unsettled(k) => put_card_placements(out, card, b"unsettled", k),
         BuildAnswer::Refused(r) => text::put_refused(out, r),
+        _ => {
+            let at = put_card(out, card);
+            verdict::put(out, at, answer, letters)
+        }
     }
 }
 

@@ -5,10 +5,10 @@ use mathlib.Core.List.{List, [], _∷_}
 use Prim.Native.Nat.{ℕ, _+_, _*_, _%_, _≤_, _<_}
 use native.Mathlib.Omega.{arith}
 use lib.ListN.{length, getD, drop}
-use Rattle.letters.specs.Letters.{Reading, code, noLetter, codeOf}
+use Rattle.letters.specs.Letters.{Reading, code, noLetter, codeOf, isCode, isLetter}
 use Rattle.letters.proofs.Inverse.{letter-code}
 use Rattle.probes.specs.Reading.{lettersFrom, readCodes}
-use Rattle.probes.specs.Says.{isLetter, codeIn, kept, Spelled}
+use Rattle.probes.specs.Says.{codeIn, kept, Spelled}
 use Rattle.probes.proofs.NumberCursor.{here, past}
 
 pub code-below : (b : ℕ) {c : ℕ} → codeOf b ≡ code c → c < 4
@@ -28,20 +28,20 @@ pub record Spelling (text : List ℕ) (at value end : ℕ) : Type 0 where
   pub rest : readCodes (drop end text) .rest ≡ readCodes (drop at text) .rest
   pub kept-all : kept value (readCodes (drop end text) .what) ≡ kept 0 (readCodes (drop at text) .what)
 
-codes-stop : (b : ℕ) (bs : List ℕ) → isLetter (codeOf b) ≡ false → readCodes (b ∷ bs) ≡ record { what = []; rest = b ∷ bs }
+codes-stop : (b : ℕ) (bs : List ℕ) → isLetter b ≡ false → readCodes (b ∷ bs) ≡ record { what = []; rest = b ∷ bs }
 unfolding readCodes
 codes-stop b bs e = go (codeOf b) e
   where
-    go : (r : Reading) → isLetter r ≡ false → lettersFrom r (b ∷ bs) (readCodes bs) ≡ record { what = []; rest = b ∷ bs }
+    go : (r : Reading) → isCode r ≡ false → lettersFrom r (b ∷ bs) (readCodes bs) ≡ record { what = []; rest = b ∷ bs }
     go noLetter e = refl
     go (code c) e = let z : _≡_ {A = ℕ} 0 1 = cc in absurd (omega arith)
 
-codes-on : (b : ℕ) (bs : List ℕ) → isLetter (codeOf b) ≡ true
+codes-on : (b : ℕ) (bs : List ℕ) → isLetter b ≡ true
     → readCodes (b ∷ bs) ≡ record { what = codeIn (codeOf b) ∷ readCodes bs .what; rest = readCodes bs .rest }
 unfolding readCodes
 codes-on b bs e = go (codeOf b) e
   where
-    go : (r : Reading) → isLetter r ≡ true
+    go : (r : Reading) → isCode r ≡ true
         → lettersFrom r (b ∷ bs) (readCodes bs) ≡ record { what = codeIn r ∷ readCodes bs .what; rest = readCodes bs .rest }
     go noLetter e = let z : _≡_ {A = ℕ} 0 1 = cc in absurd (omega arith)
     go (code c) e = refl
@@ -66,7 +66,7 @@ module _ (text : List ℕ) (at : ℕ) where
           within = so-far .within;
         }
 
-    pub spelling-stop : end < length text → isLetter (codeOf (getD text end 0)) ≡ false → Spelled text at (record { value = value; end = end })
+    pub spelling-stop : end < length text → isLetter (getD text end 0) ≡ false → Spelled text at (record { value = value; end = end })
     spelling-stop h e =
         ends-so (rw (here text end h) (codes-stop (getD text end 0) (drop (end + 1) text) e))
 
@@ -76,7 +76,7 @@ module _ (text : List ℕ) (at : ℕ) where
         let none : readCodes (drop end text) ≡ record { what = []; rest = drop end text } = rw (past text end h) codes-none in
         rw all at (ends-so none)
 
-    pub spelling-turn : end < length text → isLetter (codeOf (getD text end 0)) ≡ true
+    pub spelling-turn : end < length text → isLetter (getD text end 0) ≡ true
         → Spelling text at (4 * (value % 1073741824) + codeIn (codeOf (getD text end 0))) (end + 1)
     spelling-turn h e =
         let more = ap readCodes (here text end h) ∙ codes-on (getD text end 0) (drop (end + 1) text) e in

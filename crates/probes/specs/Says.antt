@@ -58,10 +58,6 @@ listsBoth mark p NoNumber = NoListing
 
 -- ---- letters
 
-abbrev pub isLetter : Reading → Bool
-isLetter noLetter = false
-isLetter (code c) = true
-
 abbrev pub codeIn : Reading → ℕ
 codeIn noLetter = 0
 codeIn (code c) = c

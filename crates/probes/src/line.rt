@@ -13,7 +13,6 @@ ghost use Rattle.probes.specs.Says.{
   saysLined,
   lineEnd,
   toldOf,
-  isLetter,
   codeIn,
   stands,
   Spelled,
@@ -66,16 +65,6 @@ pub enum Lined {
     NoLine,
 }
 
-// Whether a byte is a letter.
-fn is_letter(byte: u8) -> bool
-    ensures { λ r. ⌜ r ≡ isLetter (codeOf byte) ⌝ }
-{
-    match letters::code_of(byte) {
-        Code::Is(_) => true,
-        Code::NoLetter => false,
-    }
-}
-
 // The code of a letter, and 0 for any other byte.
 fn code_in(byte: u8) -> u32
     ensures { λ r. ⌜ r ≡ codeIn (codeOf byte) ⌝ }
@@ -95,7 +84,7 @@ fn read_word(text: &[u8], at: usize) -> Word
     let mut value: u32 = 0;
     let mut end = at;
     while end < n {
-        if !is_letter(text[end]) {
+        if !letters::is_letter(text[end]) {
             return Word { value, end };
         }
         value = 4 * (value % KEPT) + code_in(text[end]);

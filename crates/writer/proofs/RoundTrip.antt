@@ -55,7 +55,7 @@ module _ {limit kind l : ℕ} {words ones twos before after : List ℕ} {r : Wri
   pub made-is : take n after ≡ made
   made-is =
       ap (take n) (wrote-bytes did said)
-      ∙ take-at made (drop n before) n (length-card (formatFor kind l words) (slotFrom words ones twos) ∙ wrote-size did said)
+      ∙ take-at made (drop (length made) before) n (length-card (formatFor kind l words) (slotFrom words ones twos) ∙ wrote-size did said)
 
   made-admitted : admission limit made ≡ given (formatFor kind l words)
   made-admitted =

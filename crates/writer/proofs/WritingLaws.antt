@@ -12,6 +12,7 @@ use Rattle.answers.proofs.Laws.{first-fail, first-last, first-passed, first-hol
 use Rattle.entries.specs.Slot.{slotFrom}
 use Rattle.layout.specs.Layout.{sizeOf}
 use Rattle.layout.specs.Card.{cardOf}
+use Rattle.layout.proofs.CardLaws.{length-card}
 use Rattle.lists.specs.Lists.{formatFor, listsTests}
 use Rattle.lists.proofs.Laws.{Accepted, lists-accepted, accepted-lists}
 use Rattle.writer.specs.declared.Written.{Written}
@@ -53,7 +54,9 @@ module _ {limit kind l : ℕ} {words ones twos before : List ℕ} where
     card-written {n} {after} size h e =
         let says : writing limit kind l words ones twos (length before) ≡ given n =
         card-given (length before) has (omega arith) ∙ ap given (sym size) in
-        record { answer = sym says; bytes = rw says e }
+        let card = cardOf (formatFor kind l words) (slotFrom words ones twos) in
+        let long : n ≡ length card = size ∙ sym (length-card (formatFor kind l words) (slotFrom words ones twos)) in
+        record { answer = sym says; bytes = rw says (e ∙ ap (λ (k : ℕ). card ++ drop k before) long) }
 
 -- ---- what an answer says
 
@@ -75,7 +78,9 @@ module _ {limit kind l : ℕ} {words ones twos before after : List ℕ} {r : Wri
   unfolding writing
   wrote-size = first-value _ (sizeOf (length words)) n writing-said
 
-  pub wrote-bytes : after ≡ cardOf (formatFor kind l words) (slotFrom words ones twos) ++ drop n before
+  pub wrote-bytes : after
+      ≡ cardOf (formatFor kind l words) (slotFrom words ones twos)
+      ++ drop (length (cardOf (formatFor kind l words) (slotFrom words ones twos))) before
   wrote-bytes = rw writing-said at (did .bytes)
 
 -- of lists that are accepted: the room decides
@@ -83,7 +88,9 @@ module _ {limit kind l : ℕ} {words ones twos before after : List ℕ} {r : Wri
     (did : Writes limit kind l words ones twos before r after) (has : Accepted limit kind l words ones twos) where
   pub wrote-card : sizeOf (length words) ≤ length before
       → (saysWritten r ≡ given (sizeOf (length words)))
-      × (after ≡ cardOf (formatFor kind l words) (slotFrom words ones twos) ++ drop (sizeOf (length words)) before)
+      × (after
+      ≡ cardOf (formatFor kind l words) (slotFrom words ones twos)
+      ++ drop (length (cardOf (formatFor kind l words) (slotFrom words ones twos))) before)
   wrote-card h =
       let said = card-given (length before) has h in
       (did .answer ∙ said, rw said at (did .bytes))

@@ -1,16 +1,15 @@
 -- Writing a card (01, "What can come back"): "Writing takes kind, l and three lists (words, place one, place two) and tests 5, 6, 13, 7,
 -- entries in turn (10, 11), then 12; it touches only the card's bytes of the output." `limit` is the most entries that a card may have.
 --   writing limit kind l words ones twos room     == what the writer answers, where the output has `room` bytes
---   outputAfter card before answer                == the output after the answer, where it was `before`
 --   Writes limit kind l words ones twos before r after    == the answer r, and every byte of the output afterwards
 -- The tests of the lists are `listsTests`. Assumes nothing.
 use mathlib.Core.Path.{_≡_}
 use Prim.Native.Nat.{ℕ}
 use mathlib.Core.List.{List, [], _∷_, _++_}
-use lib.ListN.{length, drop}
+use lib.ListN.{length}
 use lib.Dec.{leb}
 use Rattle.answers.specs.Numbers.{Room}
-use Rattle.answers.specs.Answer.{Answer, given, refused, test, first}
+use Rattle.answers.specs.Answer.{Answer, given, refused, test, first, outputAfter}
 use Rattle.entries.specs.Slot.{slotFrom}
 use Rattle.layout.specs.Layout.{sizeOf}
 use Rattle.layout.specs.Card.{cardOf}
@@ -29,11 +28,7 @@ abbrev pub saysWritten : Written → Answer ℕ
 saysWritten (Card n) = given n
 saysWritten (Refused r) = refused (r .number) (r .place)
 
--- "the card standing at the start of the output", its later bytes as they were; on a refusal all of it is as it was
-abbrev pub outputAfter : List ℕ → List ℕ → Answer ℕ → List ℕ
-outputAfter card before (given n) = card ++ drop n before
-outputAfter card before (refused n p) = before
-
+-- "the card standing at the start of the output"
 pub record Writes (limit kind l : ℕ) (words ones twos before : List ℕ) (r : Written) (after : List ℕ) : Type 0 where
   pub answer : saysWritten r ≡ writing limit kind l words ones twos (length before)
   pub bytes : after

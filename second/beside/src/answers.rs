@@ -77,7 +77,7 @@ pub struct Part {
     pub length: usize,
 }
 
-/// What the writer answers, and a call that imports or exports a list; the length is 0 where it refuses.
+/// What the writer answers, and a call that imports or exports a list or writes a FASTA record; the length is 0 where it refuses.
 #[repr(C)]
 #[derive(Clone, Copy, Debug, Default, PartialEq, Eq)]
 pub struct WriteAnswer {
@@ -85,7 +85,7 @@ pub struct WriteAnswer {
     pub number: usize,
     /// The refusal's place, or 0.
     pub place: usize,
-    /// The length in bytes of the card, or of the list that is exported.
+    /// The length in bytes of the card, of the list that is exported, or of the record.
     pub length: usize,
 }
 
@@ -117,4 +117,18 @@ pub struct CountAnswer {
     pub any: usize,
     /// There are two to the power of this many builds, where there is one.
     pub exponent: usize,
+}
+
+/// What reading a FASTA record answers; both lengths are 0 where it is refused.
+#[repr(C)]
+#[derive(Clone, Copy, Debug, Default, PartialEq, Eq)]
+pub struct FastaAnswer {
+    /// The refusal's number, or 0.
+    pub number: usize,
+    /// The refusal's place, or 0.
+    pub place: usize,
+    /// The bytes of the name, at the start of its output.
+    pub name: usize,
+    /// The letters at the start of their output.
+    pub letters: usize,
 }

@@ -1,14 +1,16 @@
 //! The compiled library, called through C.
 
 use crate::answers::{
-    Admitted, BuildAnswer, CountAnswer, EntryAnswer, Held, Part, StepAnswer, WriteAnswer,
+    Admitted, BuildAnswer, CountAnswer, EntryAnswer, FastaAnswer, Held, Part, StepAnswer,
+    WriteAnswer,
 };
 
 /// The functions as C declares them.
 #[cfg(target_arch = "x86_64")]
 mod exported {
     use super::{
-        Admitted, BuildAnswer, CountAnswer, EntryAnswer, Held, Part, StepAnswer, WriteAnswer,
+        Admitted, BuildAnswer, CountAnswer, EntryAnswer, FastaAnswer, Held, Part, StepAnswer,
+        WriteAnswer,
     };
 
     extern "C" {
@@ -77,6 +79,22 @@ mod exported {
             out: *mut u8,
             out_len: usize,
         ) -> WriteAnswer;
+        pub fn belfrymist_write_fasta(
+            name: *const u8,
+            name_len: usize,
+            letters: *const u8,
+            letters_len: usize,
+            out: *mut u8,
+            out_len: usize,
+        ) -> WriteAnswer;
+        pub fn belfrymist_read_fasta(
+            record: *const u8,
+            record_len: usize,
+            name: *mut u8,
+            name_len: usize,
+            letters: *mut u8,
+            letters_len: usize,
+        ) -> FastaAnswer;
     }
 }
 
@@ -87,11 +105,14 @@ mod exported {
 #[cfg(not(target_arch = "x86_64"))]
 mod exported {
     use super::{
-        Admitted, BuildAnswer, CountAnswer, EntryAnswer, Held, Part, StepAnswer, WriteAnswer,
+        Admitted, BuildAnswer, CountAnswer, EntryAnswer, FastaAnswer, Held, Part, StepAnswer,
+        WriteAnswer,
     };
 
     mod placed {
-        use super::{Admitted, BuildAnswer, CountAnswer, EntryAnswer, StepAnswer, WriteAnswer};
+        use super::{
+            Admitted, BuildAnswer, CountAnswer, EntryAnswer, FastaAnswer, StepAnswer, WriteAnswer,
+        };
 
         extern "C" {
             pub fn belfrymist_admit(answer: *mut Admitted, card: *const u8, len: usize);
@@ -168,6 +189,24 @@ mod exported {
                 card_len: usize,
                 out: *mut u8,
                 out_len: usize,
+            );
+            pub fn belfrymist_write_fasta(
+                answer: *mut WriteAnswer,
+                name: *const u8,
+                name_len: usize,
+                letters: *const u8,
+                letters_len: usize,
+                out: *mut u8,
+                out_len: usize,
+            );
+            pub fn belfrymist_read_fasta(
+                answer: *mut FastaAnswer,
+                record: *const u8,
+                record_len: usize,
+                name: *mut u8,
+                name_len: usize,
+                letters: *mut u8,
+                letters_len: usize,
             );
         }
     }
@@ -334,13 +373,55 @@ mod exported {
         placed::belfrymist_export(&mut answer, card, card_len, out, out_len);
         answer
     }
+
+    pub unsafe fn belfrymist_write_fasta(
+        name: *const u8,
+        name_len: usize,
+        letters: *const u8,
+        letters_len: usize,
+        out: *mut u8,
+        out_len: usize,
+    ) -> WriteAnswer {
+        let mut answer = WriteAnswer::default();
+        placed::belfrymist_write_fasta(
+            &mut answer,
+            name,
+            name_len,
+            letters,
+            letters_len,
+            out,
+            out_len,
+        );
+        answer
+    }
+
+    pub unsafe fn belfrymist_read_fasta(
+        record: *const u8,
+        record_len: usize,
+        name: *mut u8,
+        name_len: usize,
+        letters: *mut u8,
+        letters_len: usize,
+    ) -> FastaAnswer {
+        let mut answer = FastaAnswer::default();
+        placed::belfrymist_read_fasta(
+            &mut answer,
+            record,
+            record_len,
+            name,
+            name_len,
+            letters,
+            letters_len,
+        );
+        answer
+    }
 }
 
 use exported::{
     belfrymist_admit, belfrymist_build, belfrymist_companion, belfrymist_count,
     belfrymist_count_lists, belfrymist_entry, belfrymist_export, belfrymist_fetch,
-    belfrymist_import, belfrymist_settle, belfrymist_settle_lists, belfrymist_step,
-    belfrymist_write,
+    belfrymist_import, belfrymist_read_fasta, belfrymist_settle, belfrymist_settle_lists,
+    belfrymist_step, belfrymist_write, belfrymist_write_fasta,
 };
 
 /// Admits the card.
@@ -492,4 +573,38 @@ pub fn import(list: &[u8], out: &mut [u8]) -> WriteAnswer {
 pub fn export(card: &[u8], out: &mut [u8]) -> WriteAnswer {
     // SAFETY: as for `build`.
     unsafe { belfrymist_export(card.as_ptr(), card.len(), out.as_mut_ptr(), out.len()) }
+}
+
+/// Writes a name and letters as a FASTA record.
+pub fn write_fasta(name: &[u8], letters: &[u8], out: &mut [u8]) -> WriteAnswer {
+    // SAFETY: each pointer with its length is that of a slice that lives through
+    // the call; the library only reads the name and the letters, and the output
+    // is lent to it alone.
+    unsafe {
+        belfrymist_write_fasta(
+            name.as_ptr(),
+            name.len(),
+            letters.as_ptr(),
+            letters.len(),
+            out.as_mut_ptr(),
+            out.len(),
+        )
+    }
+}
+
+/// Reads a FASTA record into an output for its name and one for its letters.
+pub fn read_fasta(record: &[u8], name: &mut [u8], letters: &mut [u8]) -> FastaAnswer {
+    // SAFETY: each pointer with its length is that of a slice that lives through
+    // the call; the library only reads the record, and each output is lent to it
+    // alone.
+    unsafe {
+        belfrymist_read_fasta(
+            record.as_ptr(),
+            record.len(),
+            name.as_mut_ptr(),
+            name.len(),
+            letters.as_mut_ptr(),
+            letters.len(),
+        )
+    }
 }

@@ -4,6 +4,7 @@ use second::block;
 use second::build::{self, Built};
 use second::count::{self, Count};
 use second::entry::{Entry, Places};
+use second::fasta::{self, Parts};
 use second::probe_list;
 use second::reader::{self, Head};
 use second::refusal::Refusal;
@@ -13,7 +14,8 @@ use second::walk::counted::Counted;
 use second::writer;
 
 use crate::answers::{
-    Admitted, BuildAnswer, CountAnswer, EntryAnswer, Held, Part, StepAnswer, WriteAnswer,
+    Admitted, BuildAnswer, CountAnswer, EntryAnswer, FastaAnswer, Held, Part, StepAnswer,
+    WriteAnswer,
 };
 
 /// Admits the card.
@@ -131,7 +133,31 @@ pub fn export(card: &[u8], out: &mut [u8]) -> WriteAnswer {
     written(probe_list::export(card, out))
 }
 
-/// What the writer answers, and a call that imports or exports.
+/// Writes a name and letters as a FASTA record.
+pub fn write_fasta(name: &[u8], letters: &[u8], out: &mut [u8]) -> WriteAnswer {
+    written(fasta::write(name, letters, out))
+}
+
+/// Reads a FASTA record into an output for its name and one for its letters.
+pub fn read_fasta(record: &[u8], name: &mut [u8], letters: &mut [u8]) -> FastaAnswer {
+    match fasta::read(record, name, letters) {
+        Ok(Parts { name, letters }) => FastaAnswer {
+            name,
+            letters,
+            ..FastaAnswer::default()
+        },
+        Err(refusal) => {
+            let (number, place) = number_and_place(refusal);
+            FastaAnswer {
+                number,
+                place,
+                ..FastaAnswer::default()
+            }
+        }
+    }
+}
+
+/// What the writer answers, and a call that imports, exports or writes a record.
 fn written(answer: Result<usize, Refusal>) -> WriteAnswer {
     match answer {
         Ok(length) => WriteAnswer {

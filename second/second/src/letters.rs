@@ -1,4 +1,4 @@
-//! The letters of words, builds and lists.
+//! The letters of words, builds, lists and records.
 
 /// The letters by their codes, from 0 on.
 const LETTERS: [u8; 4] = *b"ACGT";
@@ -31,6 +31,19 @@ pub fn codes(letters: &[u8]) -> Option<Vec<u32>> {
     letters.iter().map(|&letter| code(letter)).collect()
 }
 
+/// Says whether a byte is a letter.
+pub fn is_letter(byte: u8) -> bool {
+    matches!(byte, b'A' | b'C' | b'G' | b'T')
+}
+
+/// Says whether these bytes are letters alone.
+///
+/// Every byte is looked at, with no way out before the last: this lets the
+/// compiler look at many of them at once.
+pub fn are_letters(bytes: &[u8]) -> bool {
+    bytes.iter().fold(true, |are, &byte| are & is_letter(byte))
+}
+
 /// The letters of a word of l letters, the first one first.
 pub fn letters_of(l: u8, word: u32) -> impl Iterator<Item = u8> {
     (0..l).rev().map(move |k| last_letter(word >> (2 * k)))
@@ -55,6 +68,16 @@ mod tests {
         for byte in (0..=255).filter(|byte| !b"ACGT".contains(byte)) {
             assert_eq!(codes(&[b'A', byte]), None);
         }
+    }
+
+    #[test]
+    fn the_bytes_that_are_letters() {
+        for byte in 0..=255 {
+            let is_one = [65, 67, 71, 84].contains(&byte);
+            assert_eq!(is_letter(byte), is_one);
+            assert_eq!(are_letters(&[b'A', byte, b'T']), is_one);
+        }
+        assert!(are_letters(b"") && are_letters(b"GATTACA"));
     }
 
     #[test]

@@ -1,4 +1,4 @@
-//! Every number of the card's layout and limits, and of a list's, each in one place.
+//! Every number of the card's layout and limits, of a list's and of a record's, each in one place.
 
 /// The bytes of a block.
 pub const BLOCK: usize = 512;
@@ -59,9 +59,16 @@ pub const TAB: u8 = b'\t';
 pub const COMMA: u8 = b',';
 /// What stands between the first and the last place of a span on a line of a list.
 pub const HYPHEN: u8 = b'-';
-/// What every line of a list ends in.
+/// What every line of a list ends in, and every line of a record.
 pub const NEWLINE: u8 = b'\n';
 /// The largest number on a line of a list.
 pub const MOST_LISTED: u32 = 65_535;
 /// The most bytes of a line beside its word, on the list of a card: a tab, two numbers of three digits, a mark and a newline.
 pub const BESIDE_THE_WORD: usize = 9;
+
+/// What a record begins with.
+pub const RECORD_START: u8 = b'>';
+/// The most bytes of a record's name.
+pub const LONGEST_NAME: usize = 40;
+/// The letters of a full line of a record.
+pub const LINE_LETTERS: usize = 60;

@@ -32,6 +32,12 @@ pub enum Reason {
     Lists = 13,
     /// There is no such block or entry.
     Absent = 14,
+    /// A name is not as it must be, or no record begins with one.
+    Name = 20,
+    /// A byte of a record is no letter, or there is none.
+    Letter = 21,
+    /// A break is missing, or stands elsewhere than the rule puts it.
+    Line = 22,
     /// A line of a list is not as its text must be.
     Text = 23,
     /// A line's mark differs from an earlier one.
@@ -54,12 +60,12 @@ impl Reason {
     }
 }
 
-/// A refusal: its reason, and the block, the entry, the line or the 0 that it points to.
+/// A refusal: its reason, and the block, the entry, the line, the letters before it or the 0 that it points to.
 #[derive(Clone, Copy, Debug, PartialEq, Eq)]
 pub struct Refusal {
     /// The condition that was met.
     pub reason: Reason,
-    /// The block or entry where it was met, from 0, or the line, from 1, or 0 where no place is stated.
+    /// The block or entry where it was met, from 0, or the line, from 1, or the number of letters before it, or 0 where no place is stated.
     pub place: usize,
 }
 

@@ -1,13 +1,16 @@
-//! What the programs print: `build` and `settle` for a card, the line that says how many builds it has, and a list or a card for the other.
+//! What the programs print: `build` and `settle` for a card, the line that says how many builds it has, a list or a card for the other, and the
+//! FASTA record of a card's one build.
 
 use crate::build::{build, Built};
 use crate::count::{count_card, Count};
-use crate::numbers::{BESIDE_THE_WORD, MOST_ENTRIES, MOST_LETTERS};
+use crate::fasta;
+use crate::numbers::{BESIDE_THE_WORD, LINE_LETTERS, LONGEST_NAME, MOST_ENTRIES, MOST_LETTERS};
 use crate::probe_list::{export, import};
 use crate::profile::{Kind, Profile};
 use crate::reader;
 use crate::refusal::Refusal;
 use crate::settle::settle_card;
+use crate::verdict::Verdict;
 
 /// The budget that `build` uses.
 pub const BUDGET: u32 = 1_000_000;
@@ -54,6 +57,22 @@ pub fn list_of_card(card: &[u8]) -> Result<Vec<u8>, String> {
     start_of(longest, |out| export(card, out))
 }
 
+/// The FASTA record of the one build of a card under this name, or the one line that says why there is none; all of the input is the card.
+///
+/// That line is the second one of `build` where there is not one build, so
+/// that the name is not looked at, and else that of a refusal.
+pub fn fasta_of_card(card: &[u8], name: &[u8]) -> Result<Vec<u8>, String> {
+    let profile = reader::admit(card).map_err(refused)?;
+    let mut letters = vec![0; profile.build_length()];
+    let built = build(card, BUDGET, &mut letters).map_err(refused)?;
+    if built.verdict != Verdict::Sole {
+        return Err(verdict_line(built, &letters));
+    }
+    let breaks = 1 + letters.len().div_ceil(LINE_LETTERS);
+    let longest = 1 + LONGEST_NAME + letters.len() + breaks;
+    start_of(longest, |out| fasta::write(name, &letters, out))
+}
+
 /// What a call puts at the start of an output of this room, or the one line for its refusal.
 fn start_of(
     room: usize,
@@ -86,19 +105,24 @@ fn two_lines(
     let profile = reader::admit(card)?;
     let mut out = vec![0; profile.build_length()];
     let built = build(&mut out)?;
-    let mut second_line = built.verdict.name().to_string();
-    if built.length > 0 {
-        second_line.push(' ');
-        // The letters are capitals of ASCII.
-        second_line.extend(out.iter().map(|&letter| char::from(letter)));
-    }
     let kind = match profile.kind {
         Kind::Pair => "pair",
         Kind::Span => "span",
     };
     let (l, m) = (profile.l, profile.m);
-    let placements = built.placements;
-    Ok(format!("CARD {kind} {l} {m}\n{second_line} {placements}\n"))
+    let second_line = verdict_line(built, &out);
+    Ok(format!("CARD {kind} {l} {m}\n{second_line}"))
+}
+
+/// The line for the verdict on a card, with the letters that the output has of it.
+fn verdict_line(built: Built, out: &[u8]) -> String {
+    let mut line = built.verdict.name().to_string();
+    if built.length > 0 {
+        line.push(' ');
+        // The letters are capitals of ASCII.
+        line.extend(out.iter().map(|&letter| char::from(letter)));
+    }
+    format!("{line} {}\n", built.placements)
 }
 
 #[cfg(test)]

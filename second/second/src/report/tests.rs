@@ -175,3 +175,60 @@ fn the_list_of_a_card() {
     let lines = b"AAAAAAAAAAAA\t504-504\n".repeat(504);
     assert_eq!(list_of_card(&longest.lay_out()), Ok(lines));
 }
+
+#[test]
+fn the_record_of_a_card() {
+    let wanted = [
+        Err("several ACAGA 0\n"),
+        Ok(">a-build\nACAGA\n"),
+        Ok(">a-build\nAGACA\n"),
+        Err("none 0\n"),
+        Ok(">a-build\nAAA\n"),
+        Ok(">a-build\nAC\n"),
+        Err("none 0\n"),
+        Err("several ACAGA 8\n"),
+        Ok(">a-build\nACAGA\n"),
+        Err("none 2\n"),
+        Ok(">a-build\nAAAA\n"),
+        Err("none 0\n"),
+    ];
+    for (table, wanted) in tables().iter().zip(wanted) {
+        let card = table.lists.card().expect("a sound table");
+        let record = wanted.map(|record| record.as_bytes().to_vec());
+        let record = record.map_err(str::to_string);
+        assert_eq!(fasta_of_card(&card, b"a-build"), record, "{}", table.name);
+    }
+    let unsettled = without_an_end().card().expect("sound lists");
+    let line = Err("unsettled 1000000\n".to_string());
+    assert_eq!(fasta_of_card(&unsettled, b"a-build"), line);
+}
+
+#[test]
+fn the_longest_record_of_a_card() {
+    // Entry i alone may stand at place i, so that the words of A's in number are the one build.
+    let mut draft = plain(Kind::Span, 12, 504);
+    for (place, entry) in (0..).zip(&mut draft.entries) {
+        (entry.one, entry.two) = (place, place);
+    }
+    let name = [b'n'; 40];
+    let line = [b'A'; 60];
+    let lines = [&line[..]; 8].join(&b'\n');
+    let last = [b'A'; 515 - 480];
+    let record = [b">", &name[..], b"\n", &lines, b"\n", &last, b"\n"].concat();
+    assert_eq!(fasta_of_card(&draft.lay_out(), &name), Ok(record));
+}
+
+#[test]
+fn no_record_of_a_card() {
+    let lists = table("P5");
+    let sole = lists.card().expect("a sound table");
+    let refused = |line: &str| Err(line.to_string());
+    for name in [&b""[..], b"a build", b"n\n", &[b'n'; 41], b"\xC3\xA9"] {
+        assert_eq!(fasta_of_card(&sole, name), refused("refused 20 0\n"));
+        // The card is tested first, and so is its verdict.
+        assert_eq!(fasta_of_card(&sole[..511], name), refused("refused 1 0\n"));
+        assert_eq!(fasta_of_card(&s1(), name), refused("several ACAGA 8\n"));
+    }
+    let longer = [&sole[..], b"\n"].concat();
+    assert_eq!(fasta_of_card(&longer, b"n"), refused("refused 9 0\n"));
+}

@@ -3,6 +3,7 @@
 //! `report` of `second`: one table of ratios.
 
 mod counting;
+mod fasta;
 mod listing;
 mod pairing;
 mod reading;
@@ -30,6 +31,7 @@ fn run() -> Result<(), String> {
     let narrow = settling::samples(&mut random);
     let runs = running::samples(&mut random);
     let listed = listing::samples(&mut random);
+    let records = fasta::samples(&mut random);
 
     let mut operations = reading::operations(&cards)?;
     operations.extend(pairing::operations(&pairs)?);
@@ -37,6 +39,7 @@ fn run() -> Result<(), String> {
     operations.extend(walking::operations(&walks)?);
     operations.extend(settling::operations(&narrow)?);
     operations.extend(listing::operations(&listed)?);
+    operations.extend(fasta::operations(&records)?);
     // The program is x86-64 code: elsewhere an emulator's time would be set beside the processor's own.
     if cfg!(target_arch = "x86_64") {
         operations.extend(running::operations(&programs, &runs)?);

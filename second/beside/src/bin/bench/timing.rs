@@ -11,10 +11,11 @@ const ROUND: Duration = Duration::from_micros(300);
 /// The rounds that each side takes, where no call is much longer than that.
 pub const ROUNDS: usize = 301;
 
-/// What the library is set beside: `second`, the walk in C, or its own builds.
+/// What the library is set beside: `second`, the same with the bytes of a call, the walk in C, or its own builds.
 #[derive(Clone, Copy, PartialEq, Eq)]
 pub enum Beside {
     Second,
+    SecondPerBytes(usize),
     C,
     Build,
 }
@@ -91,22 +92,21 @@ pub fn header() -> String {
 pub fn line(operation: &mut Operation) -> String {
     let (library, other) = measure(operation);
     let ratio = format!("{:.2}", library / other);
+    let of_library = match operation.beside {
+        Beside::SecondPerBytes(bytes) => speed(bytes, library),
+        _ => shown(library),
+    };
     // A speed beside C, where the ratio is one of times.
-    let (other_time, speed) = match operation.beside {
+    let (of_other, of_c) = match operation.beside {
         Beside::Second => (shown(other), String::new()),
+        Beside::SecondPerBytes(bytes) => (speed(bytes, other), String::new()),
         Beside::C => (
             format!("C {}", shown(other)),
             format!("{:.2}", other / library),
         ),
         Beside::Build => (format!("build {}", shown(other)), String::new()),
     };
-    columns(
-        &operation.name,
-        &shown(library),
-        &other_time,
-        &ratio,
-        &speed,
-    )
+    columns(&operation.name, &of_library, &of_other, &ratio, &of_c)
 }
 
 /// The columns of a line.
@@ -122,4 +122,9 @@ fn shown(nanoseconds: f64) -> String {
         time if time < 1e6 => format!("{:.2} us", time / 1e3),
         time => format!("{:.2} ms", time / 1e6),
     }
+}
+
+/// The speed at which so many bytes take these nanoseconds.
+fn speed(bytes: usize, nanoseconds: f64) -> String {
+    format!("{:.0} MB/s", bytes as f64 * 1e3 / nanoseconds)
 }

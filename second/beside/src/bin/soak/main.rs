@@ -1,7 +1,7 @@
 //! Sets the compiled library beside `second`, call by call.
 //!
-//! `soak COUNT [SEED]` makes COUNT calls on cards and lists that are drawn
-//! from the seed, builds above all. It stops at the first difference with exit
+//! `soak COUNT [SEED]` makes COUNT calls on cards, lists and FASTA records that
+//! are drawn from the seed, builds above all. It stops at the first difference with exit
 //! status 1. At the end it says how often each answer came, so that a run that
 //! tried nothing can be told from one that did.
 
@@ -9,6 +9,7 @@ mod alike;
 mod building;
 mod counting;
 mod exporting;
+mod fasta;
 mod importing;
 mod inputs;
 mod lent;
@@ -39,7 +40,7 @@ const COPIES: usize = 2;
 const LONG_TURNS: usize = 18;
 /// The steps that lists are changed by before each of these turns.
 const STEPS: usize = 16;
-/// From so many calls on, no answer of a build, of a count, of settling or of lists as texts may be missing.
+/// From so many calls on, no answer of a build, of a count, of settling, of lists as texts or of FASTA records may be missing.
 const ENOUGH: u64 = 100_000;
 /// From so many calls on, none may be missing after a long walk.
 const ENOUGH_LONG: u64 = 400_000;
@@ -67,6 +68,7 @@ impl Soak {
         self.run_beyond_the_index(random)?;
         self.run_beyond_the_count(random)?;
         self.import_beyond_the_count(random)?;
+        self.fasta_of_many_letters(random)?;
         while !self.is_done() {
             let sound = any_buildable_card(random);
             self.on_card(random, &sound)?;
@@ -90,6 +92,7 @@ impl Soak {
                 self.settle_narrow(random)?;
             }
             self.import_texts(random)?;
+            self.fasta(random)?;
             if random.once_in(LONG_TURNS) {
                 self.walk_long(random)?;
             }

@@ -20,10 +20,12 @@ pub enum Operation {
     Write,
     Import,
     Export,
+    WriteFasta,
+    ReadFasta,
 }
 
 /// All of them, in the order of their lines.
-const OPERATIONS: [Operation; 13] = [
+const OPERATIONS: [Operation; 15] = [
     Operation::Build,
     Operation::Count,
     Operation::CountLists,
@@ -37,6 +39,8 @@ const OPERATIONS: [Operation; 13] = [
     Operation::Write,
     Operation::Import,
     Operation::Export,
+    Operation::WriteFasta,
+    Operation::ReadFasta,
 ];
 /// The names of the verdicts, from number 1 on.
 pub const VERDICTS: [&str; 4] = ["sole", "several", "none", "unsettled"];
@@ -58,6 +62,10 @@ const OF_SETTLE_LISTS: [usize; 8] = [5, 6, 7, 10, 11, 12, 13, 30];
 const OF_IMPORT: [usize; 8] = [6, 7, 11, 12, 23, 24, 25, 26];
 /// The refusals that exporting a card has.
 const OF_EXPORT: [usize; 12] = [1, 2, 3, 4, 5, 6, 7, 8, 9, 10, 11, 12];
+/// The refusals that writing a FASTA record has.
+const OF_WRITE_FASTA: [usize; 3] = [12, 20, 21];
+/// The refusals that reading a FASTA record has.
+const OF_READ_FASTA: [usize; 4] = [12, 20, 21, 22];
 /// What a count says that is not refused: no build, 2^0 builds, or 2 to a higher power.
 const COUNTS: [&str; 3] = ["none", "one build", "more"];
 /// A walk of more placements is long.
@@ -132,7 +140,7 @@ impl Tally {
         }
     }
 
-    /// An answer of a build, of a count, of settling or of lists as texts that never came, if there is one.
+    /// An answer of a build, of a count, of settling, of lists as texts or of FASTA records that never came, if there is one.
     pub fn missing(&self) -> Option<String> {
         self.missing_verdict(Operation::Build, VERDICTS.len())
             .or_else(|| self.missing_refusal(Operation::Build, &OF_BUILD))
@@ -146,6 +154,8 @@ impl Tally {
             .or_else(|| self.missing_settle(Operation::SettleLists, &OF_SETTLE_LISTS))
             .or_else(|| self.missing_answer(Operation::Import, &OF_IMPORT))
             .or_else(|| self.missing_answer(Operation::Export, &OF_EXPORT))
+            .or_else(|| self.missing_answer(Operation::WriteFasta, &OF_WRITE_FASTA))
+            .or_else(|| self.missing_answer(Operation::ReadFasta, &OF_READ_FASTA))
     }
 
     /// What this operation never answered, if there is such an answer; it has these refusals.

@@ -1,9 +1,10 @@
-//! The cases of the stored calls: how many builds there are, then what is settled, then lists as texts.
+//! The cases of the stored calls: how many builds there are, then what is settled, then lists as texts, then FASTA records.
 //!
 //! Where a case is made for one answer or for one rule, the answer is stated
 //! beside it, and the program stops if `second` says otherwise.
 
 mod counting;
+mod fasta;
 mod ladders;
 mod listing;
 mod settling;
@@ -32,6 +33,7 @@ impl Cases {
         cases.counting();
         cases.settling();
         cases.listing();
+        cases.fasta();
         cases.record
     }
 }

@@ -1,4 +1,5 @@
-//! Writes stored calls: records of cards and lists, and the lines for their numbers of builds, for what is settled, and for lists as texts.
+//! Writes stored calls: records of cards, lists and names with letters, and the lines for numbers of builds, for what is settled, for lists as
+//! texts and for FASTA records.
 //!
 //! The README describes both files. The same program always writes the same
 //! bytes: everything is drawn from one fixed seed.

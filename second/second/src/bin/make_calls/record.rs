@@ -1,20 +1,28 @@
 //! The two files of the calls as they grow.
 
 mod counting;
+mod fasta;
 mod listing;
 mod settling;
 
 use second::lists::{Lists, LONGEST_LIST};
+use second::refusal::Refusal;
+use second::stored::{hash, refusal_words, BYTE_BEFORE};
 
 use counting::Counts;
+use fasta::Fastas;
 use listing::Listings;
 use settling::Settles;
 
 pub use counting::Answer;
-pub use listing::{Called, LONGEST_ROOM, LONGEST_TEXT};
+pub use fasta::LONGEST_PART;
+pub use listing::{LONGEST_ROOM, LONGEST_TEXT};
 
 /// The most bytes that a card may have.
 const LONGEST_CARD: usize = 6400;
+
+/// The answer to a call that writes, and the whole output after it.
+pub type Called = (Result<usize, Refusal>, Vec<u8>);
 
 /// The calls so far.
 #[derive(Default)]
@@ -24,6 +32,7 @@ pub struct Record {
     counts: Counts,
     settles: Settles,
     listings: Listings,
+    fastas: Fastas,
 }
 
 impl Record {
@@ -37,15 +46,21 @@ impl Record {
         &self.stdout
     }
 
-    /// How many records there are, and how often each answer came: a line for the counts, one for what is settled, and one for lists as texts.
+    /// How many records there are, and how often each answer came: a line for the counts, for what is settled, for lists as texts, and for FASTA.
     pub fn summary(&self) -> String {
         let Record {
             counts,
             settles,
             listings,
+            fastas,
             ..
         } = self;
-        let lines = [counts.summary(), settles.summary(), listings.summary()];
+        let lines = [
+            counts.summary(),
+            settles.summary(),
+            listings.summary(),
+            fastas.summary(),
+        ];
         lines.join("\n")
     }
 
@@ -94,4 +109,32 @@ impl Record {
         self.stdout.push_str(line);
         self.stdout.push('\n');
     }
+}
+
+/// What a call makes of an output of this room.
+fn called(room: usize, call: impl FnOnce(&mut [u8]) -> Result<usize, Refusal>) -> Called {
+    let mut out = vec![BYTE_BEFORE; room];
+    let answer = call(&mut out);
+    (answer, out)
+}
+
+/// An answer, which has this name where nothing is refused, and the number that stands for the whole output.
+fn words(name: &str, (answer, out): &Called) -> String {
+    let answer = match answer {
+        Ok(length) => format!("{name} {length}"),
+        Err(refusal) => refusal_words(*refusal),
+    };
+    format!("{answer} {}", hash_of(out))
+}
+
+/// The number that stands for a whole output.
+fn hash_of(out: &[u8]) -> u64 {
+    hash(out.iter().map(|&byte| u64::from(byte)))
+}
+
+/// The output of this room that begins with these bytes.
+fn beginning(bytes: &[u8], room: usize) -> Vec<u8> {
+    let mut out = vec![BYTE_BEFORE; room];
+    out[..bytes.len()].copy_from_slice(bytes);
+    out
 }

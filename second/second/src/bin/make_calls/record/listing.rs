@@ -5,11 +5,10 @@ mod tally;
 use second::lists::Lists;
 use second::probe_list::{export, import};
 use second::reader;
-use second::refusal::Refusal;
-use second::stored::{hash, refusal_words, BYTE_BEFORE};
+use second::stored::BYTE_BEFORE;
 use second::texts::text_of;
 
-use super::{Record, LONGEST_CARD};
+use super::{beginning, called, words, Called, Record, LONGEST_CARD};
 
 pub use tally::Listings;
 
@@ -17,9 +16,6 @@ pub use tally::Listings;
 pub const LONGEST_TEXT: usize = 16_384;
 /// The most bytes that an output for a card may have.
 pub const LONGEST_ROOM: usize = LONGEST_CARD;
-
-/// The answer to a call, and the whole output after it.
-pub type Called = (Result<usize, Refusal>, Vec<u8>);
 
 impl Record {
     /// Records importing a list into an output of this room, and gives the outcome.
@@ -86,30 +82,6 @@ impl Record {
         self.listings.count(&called);
         called
     }
-}
-
-/// What a call makes of an output of this room.
-fn called(room: usize, call: impl FnOnce(&mut [u8]) -> Result<usize, Refusal>) -> Called {
-    let mut out = vec![BYTE_BEFORE; room];
-    let answer = call(&mut out);
-    (answer, out)
-}
-
-/// An answer, which has this name where nothing is refused, and the number that stands for the whole output.
-fn words(name: &str, (answer, out): &Called) -> String {
-    let answer = match answer {
-        Ok(length) => format!("{name} {length}"),
-        Err(refusal) => refusal_words(*refusal),
-    };
-    let hash = hash(out.iter().map(|&byte| u64::from(byte)));
-    format!("{answer} {hash}")
-}
-
-/// The output of this room that begins with these bytes.
-fn beginning(bytes: &[u8], room: usize) -> Vec<u8> {
-    let mut out = vec![BYTE_BEFORE; room];
-    out[..bytes.len()].copy_from_slice(bytes);
-    out
 }
 
 /// What must come of a card by way of its list: its own bytes, if it is admitted.

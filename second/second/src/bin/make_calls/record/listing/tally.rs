@@ -1,6 +1,6 @@
 //! How often each answer came of lists as texts.
 
-use super::Called;
+use crate::record::Called;
 
 /// How many calls there are, and how often each answer came.
 #[derive(Default)]
