@@ -13,6 +13,10 @@ Inv-loop out₀ body n to₀ at₀ out to at = Parting body out₀ to at out
 abbrev μ-loop : tie.MeasureT-loop
 μ-loop out₀ body n to₀ at₀ out to at = n - at
 
+-- where the line ends whose letters are put
+abbrev ended : tie.After-slice-known2 Inv-loop μ-loop → tie.After-line-end Inv-loop μ-loop
+ended c = c .before .before .before .before .before
+
 loop-holds : tie.Need-loop-holds Inv-loop μ-loop
 loop-holds c = let start = c .before .before in parting-none (start .pre .0) (start .pre .1)
 
@@ -39,20 +43,19 @@ put-text-requires c κs =
 
 add-at : tie.Need-add-at Inv-loop μ-loop
 add-at c =
-    let at = c .before .before .before .before .before in
+    let at = ended c in
     omega (arith, end-within (at .line-end .ensures), at .before .loop-test .taken)
 
 loop-less : tie.Need-loop-less Inv-loop μ-loop
 loop-less c =
-    let at = c .before .before .before .before .before in
+    let at = ended c in
     omega (arith, end-after (at .line-end .ensures), at .before .loop-test .taken)
 
 loop-again : tie.Need-loop-again Inv-loop μ-loop
 loop-again c =
-    let put = c .before .before in
-    let at = put .before .before .before in
+    let at = ended c in
     let turn = at .before in
-    parting-turn (turn .before .loop .inv) (at .line-end .ensures) (turn .loop-test .taken) (put .put-text .ensures)
+    parting-turn (turn .before .loop .inv) (at .line-end .ensures) (turn .loop-test .taken) (c .before .before .put-text .ensures)
 
 same-length : tie.Need-same-length Inv-loop μ-loop
 same-length c = parting-length (c .before .loop .inv)

@@ -6,20 +6,27 @@ use borrow.Author.Needs.{needs}
 use Rattle.fasta.proofs.writing.write_named.Statement.{statement}
 use Rattle.fasta.proofs.writing.write_named.Tie as tie
 
+abbrev begun : tie.After-slice-known → tie.Start
+begun c = c .before .before .before
+
+-- the room is tested
+abbrev began : tie.After-fits2 → tie.Start
+began c = begun (c .before)
+
 fits-requires : tie.Need-fits-requires
-fits-requires c κs = let start = c .before .before .before in (name-holds _ (start .pre .0) .1, letters-held _ (start .pre .1) .0)
+fits-requires c κs = let s = begun c in (name-holds _ (s .pre .0) .1, letters-held _ (s .pre .1) .0)
 
 returns : tie.Need-returns
 returns c =
-    let start = c .before .before .before .before .before in
-    no-room _ _ _ (start .pre .0) (start .pre .1) (failed (c .before .fits2 .ensures) (c .if1 .taken))
+    let s = began (c .before) in
+    no-room _ _ _ (s .pre .0) (s .pre .1) (failed (c .before .fits2 .ensures) (c .if1 .taken))
 
 put-record-requires : tie.Need-put-record-requires
 put-record-requires c κs =
     let fits = c .before .before in
-    let start = fits .before .before .before .before in
-    let args = start .args in
-    room-for (args .name .now) (args .letters .now) (args .out .now) (start .pre .0) (start .pre .1)
+    let s = began fits in
+    let args = s .args in
+    room-for (args .name .now) (args .letters .now) (args .out .now) (s .pre .0) (s .pre .1)
     (passed (fits .fits2 .ensures) (c .before .if1 .left))
 
 same-length : tie.Need-same-length
@@ -29,8 +36,8 @@ returns-2 : tie.Need-returns-2
 returns-2 c =
     let put = c .before .before in
     let test = put .before .before in
-    let start = test .before .before .before .before .before in
-    record-written _ _ _ (start .pre .0) (start .pre .1) (passed (test .before .fits2 .ensures) (test .if1 .left)) (put .put-record .ensures)
+    let s = began (test .before) in
+    record-written _ _ _ (s .pre .0) (s .pre .1) (passed (test .before .fits2 .ensures) (test .if1 .left)) (put .put-record .ensures)
 
 pub write-named-spec : {M : Type 1} → statement M
 write-named-spec =
