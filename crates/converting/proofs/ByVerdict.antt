@@ -8,7 +8,6 @@ use mathlib.Core.List.{List, [], _∷_, _++_, map}
 use Prim.Native.Nat.{ℕ, zero, suc, _/_, _%_, _≤_, _<_}
 use native.Mathlib.Omega.{arith}
 use lib.ListN.{length, length-map, take, drop}
-use lib.Seq.{take-append-seam}
 use Rattle.answers.specs.Numbers.{Name}
 use Rattle.answers.specs.Answer.{Answer, given, refused}
 use Rattle.answers.proofs.RowLaws.{length-row}
@@ -29,7 +28,8 @@ use Rattle.sequence.proofs.ListLaws.{not-in-nil, in-cons, in-append, in-map}
 use Rattle.sequence.proofs.BuildLaws.{build-length}
 use Rattle.pairs.specs.Settling as pairs
 use Rattle.spans.specs.Settling as spans
-use Rattle.text.specs.Text.{refusalLine, Printed}
+use Rattle.text.specs.Text.{refusalLine}
+use Rattle.text.proofs.PrintedLaws.{printed-bytes}
 use Rattle.fasta.specs.Record.{areAll, isName, areLetters, recordOf}
 use Rattle.fasta.specs.Reading.{saysParsed, Reads}
 use Rattle.fasta.specs.Profile.{IsRecord}
@@ -136,13 +136,6 @@ no-record limit name (settled noBuild n) other = refl
 no-record limit name (unsettled n) other = refl
 
 -- ---- what is written
-
--- the bytes that are printed stand at the start
-printed-bytes : {P : List ℕ → Type 0} {before after : List ℕ} {n : ℕ} (did : Printed P before n after) → take n after ≡ did .bytes
-printed-bytes {before = before} {n = n} did =
-    ap (take n) (did .output)
-    ∙ ap (λ (k : ℕ). take k (did .bytes ++ drop n before)) (did .count)
-    ∙ take-append-seam (did .bytes) (drop n before)
 
 module _ {limit : ℕ} {card name out err out′ err′ : List ℕ} {r : Lengths} (did : ToFasta limit card name out err r out′ err′) where
   by-said : {a : Answer Outcome} {streams : Streams} → Says limit card programBudget (lettersRoom limit) a

@@ -13,7 +13,7 @@ use Rattle.answers.proofs.Tests.{both}
 use Rattle.fasta.specs.Record.{newline, mark, leading, isName}
 use Rattle.fasta.specs.Reading.{noBreak, nameLength, nameIn, isHeaded, bodyIn}
 use Rattle.fasta.specs.Inner.{nameReach}
-use Rattle.fasta.proofs.LeadingLaws.{leading-few, leading-next, leading-take, leading-take-few}
+use Rattle.fasta.proofs.LeadingLaws.{and-true, leading-few, leading-next, leading-take, leading-take-few}
 use Rattle.fasta.proofs.TestLaws.{name-long, name-holds}
 use Rattle.fasta.proofs.BodyLaws.{break-is}
 
@@ -97,10 +97,6 @@ module _ (r : List ℕ) where
             let there : getD r (nameLength r + 1) 0 ≡ newline =
             ap (λ (k : ℕ). getD r k 0) (omega arith) ∙ sym (getD-drop 1 r (nameLength r) 0) ∙ break-is (getD after (nameLength r) 0) stops in
             rw (same, mark-holds, eq-eqb (getD r (nameLength r + 1) 0) newline there) (and-true (isName (nameIn r)))
-          where
-            and-true : (t : Bool) → t ≡ (t && true)
-            and-true true = refl
-            and-true false = refl
 
         far : nameReach ≤ n → isName (take n after) ≡ isHeaded r
         far g =

@@ -15,7 +15,7 @@ and-assoc : (t u v : Bool) → ((t && u) && v) ≡ (t && (u && v))
 and-assoc true u v = refl
 and-assoc false u v = refl
 
-and-true : (t : Bool) → t ≡ (t && true)
+pub and-true : (t : Bool) → t ≡ (t && true)
 and-true true = refl
 and-true false = refl
 

@@ -3,15 +3,17 @@
 use mathlib.Core.Path.{_≡_, refl, sym, ap, _∙_}
 use mathlib.Core.Bool.{true}
 use mathlib.Core.List.{List, _∷_, _++_}
-use Prim.Native.Nat.{ℕ, suc, _+_}
+use Prim.Native.Nat.{ℕ, suc, _+_, _≤_}
 use native.Mathlib.Numerals.{add-one}
 use native.Mathlib.Omega.{arith}
 use lib.ListN.{length, getD, take, drop, length-drop}
 use lib.Seq.{split-at, drop-cons, take-append-seam, drop-drop, drop-append-add, getD-append-seam, getD-drop}
 use borrow.Author.Tests.{eq-eqb}
 use Rattle.fasta.specs.Record.{newline, mark, leading, isPrintable, isName, areLetters, inLines, recordOf}
-use Rattle.fasta.specs.Reading.{noBreak, nameLength, nameIn, isHeaded, bodyIn, lettersIn, areLines}
+use Rattle.answers.specs.Answer.{given}
+use Rattle.fasta.specs.Reading.{noBreak, nameLength, nameIn, isHeaded, bodyIn, lettersIn, areLines, reading}
 use Rattle.fasta.specs.Profile.{IsRecord, Begins}
+use Rattle.fasta.proofs.ByTests.{reading-given}
 use Rattle.fasta.proofs.LeadingLaws.{leading-up-to, leading-also}
 use Rattle.fasta.proofs.TestLaws.{printable-within, name-holds, letters-held}
 use Rattle.fasta.proofs.BodyLaws.{is-break, no-break, lines-lined, lined-lines, plain-letters}
@@ -104,7 +106,7 @@ pub record Own (r name ls : List ℕ) : Type 0 where
   pub letters-are : lettersIn (bodyIn r) ≡ ls
   pub lines : areLines (bodyIn r) ≡ true
 
-pub own-parts : (name ls : List ℕ) → isName name ≡ true → areLetters ls ≡ true → Own (recordOf name ls) name ls
+own-parts : (name ls : List ℕ) → isName name ≡ true → areLetters ls ≡ true → Own (recordOf name ls) name ls
 unfolding recordOf
 own-parts name ls named lettered =
     let head = begins-headed {r = recordOf name ls} (record { named = named; parts = refl }) in
@@ -115,3 +117,15 @@ own-parts name ls named lettered =
       letters-are = ap lettersIn (head .body-is) ∙ letters;
       lines = rw (head .body-is) (lined-lines (inLines ls) (sym (ap inLines letters)));
     }
+
+-- so of each record
+pub record-own : {r name ls : List ℕ} → IsRecord r name ls → Own r name ls
+record-own {name = name} {ls = ls} is = rw (is .is) (own-parts name ls (is .named) (is .lettered))
+
+-- and where there is room for both parts it is read
+pub record-given : {r name ls : List ℕ} {names letters : ℕ} → IsRecord r name ls → length name ≤ names → length ls ≤ letters
+    → reading r names letters ≡ given (length (nameIn r), length (lettersIn (bodyIn r)))
+record-given {r} {names = names} {letters = letters} is h g =
+    let own = record-own is in
+    reading-given r names letters (own .headed) (ap areLetters (own .letters-are) ∙ is .lettered) (own .lines)
+    (omega (arith, ap length (own .name-is))) (omega (arith, ap length (own .letters-are)))

@@ -23,18 +23,12 @@ use Rattle.fasta.specs.declared.reading.Parsed.{Parsed}
 use Rattle.fasta.proofs.LeadingLaws.{leading-few, leading-next, leading-own, leading-up-to}
 use Rattle.fasta.proofs.TestLaws.{letters-hold, letters-fail}
 use Rattle.fasta.proofs.BodyLaws.{not-both, lined-lines, not-lined}
-use Rattle.fasta.proofs.ByTests.{
-  writing-unnamed,
-  writing-unlettered,
-  writing-short,
-  writing-given,
-  reading-unheaded,
-  reading-unlettered,
-  reading-unlined,
-  reading-short,
-  reading-given,
-}
-use Rattle.fasta.proofs.ProfileLaws.{begins-headed, headed-begins, own-record, Own, own-parts}
+use Rattle.fasta.proofs.ByTests.{writing-unnamed, writing-unlettered, writing-short, writing-given, reading-unheaded, reading-unlettered, reading-unlined, reading-short}
+use Rattle.fasta.proofs.ProfileLaws.{begins-headed, headed-begins, own-record, Own, record-own, record-given}
+
+-- a refusal has one number and one place
+refusal-parts : {A : Type 0} {n p m q : ℕ} → _≡_ {A = Answer A} (refused n p) (refused m q) → (n ≡ m) × (p ≡ q)
+refusal-parts {n = n} {p = p} {m = m} {q = q} e = let x : n ≡ m = cc in let y : p ≡ q = cc in (x, y)
 
 -- ---- letters
 
@@ -69,11 +63,29 @@ of-fault (no-letter xs y ys all off) =
     (letters-fail (xs ++ (y ∷ ys)) (inl (omega (arith, lead, length-append xs (y ∷ ys)))), lead)
 of-fault none-at-all = (letters-fail [] (inr refl), refl)
 
+-- ---- the profile
+
+-- each text is a record or departs from the profile
+pub judged : (r : List ℕ) → Judged r
+judged r = go-head (isHeaded r) refl
+  where
+    go-lines : isHeaded r ≡ true → areLetters (lettersIn (bodyIn r)) ≡ true → (t : Bool) → areLines (bodyIn r) ≡ t → Judged r
+    go-lines headed lettered true q = keeps (own-record r headed lettered q)
+    go-lines headed lettered false q = breaks (line (headed-begins r headed) lettered (λ own. not-both (lined-lines (bodyIn r) own) q))
+
+    go-letters : isHeaded r ≡ true → (t : Bool) → areLetters (lettersIn (bodyIn r)) ≡ t → Judged r
+    go-letters headed true q = go-lines headed q (areLines (bodyIn r)) refl
+    go-letters headed false q = breaks (letter (headed-begins r headed) (fault-of (lettersIn (bodyIn r)) q))
+
+    go-head : (t : Bool) → isHeaded r ≡ t → Judged r
+    go-head true q = go-letters q (areLetters (lettersIn (bodyIn r))) refl
+    go-head false q = breaks (name (λ nm body b. not-both (begins-headed b .headed) q))
+
 -- ---- reading
 
 unread-as : {r : List ℕ} {names letters n p m q : ℕ} → Unread r names letters m q → _≡_ {A = Answer (ℕ × ℕ)} (refused m q) (refused n p)
     → Unread r names letters n p
-unread-as {n = n} {p = p} {m = m} {q = q} u e = let x : m ≡ n = cc in let y : q ≡ p = cc in rw y at (rw x at u)
+unread-as u e = let same = refusal-parts e in rw (same .1) at (rw (same .0) at u)
 
 module _ (r : List ℕ) (names letters : ℕ) where
   abbrev ls : List ℕ
@@ -105,81 +117,43 @@ module _ (r : List ℕ) (names letters : ℕ) where
 
   unread-refused : {n p : ℕ} → Unread r names letters n p → answer ≡ refused n p
   unread-refused (departs d) = departs-refused d
-  unread-refused (short {name = nm} {ls = of} is h) =
-      let own : Own r nm of = rw (is .is) (own-parts nm of (is .named) (is .lettered)) in
+  unread-refused (short {name = nm} {ls = own-letters} is h) =
+      let own = record-own is in
       reading-short r names letters (own .headed) (ap areLetters (own .letters-are) ∙ is .lettered) (own .lines) (go own h)
     where
-      go : Own r nm of → (names < length nm) ⊎ (letters < length of) → (names < length (nameIn r)) ⊎ (letters < length ls)
+      go : Own r nm own-letters → (names < length nm) ⊎ (letters < length own-letters) → (names < length (nameIn r)) ⊎ (letters < length ls)
       go own (inl h) = inl (omega (arith, ap length (own .name-is)))
       go own (inr h) = inr (omega (arith, ap length (own .letters-are)))
 
   -- and nothing else is
   why-unread : {n p : ℕ} → answer ≡ refused n p → Unread r names letters n p
-  why-unread {n} {p} e = go-head (isHeaded r) refl
+  why-unread {n} {p} e = go (judged r)
     where
       told : {m q : ℕ} → Unread r names letters m q → Unread r names letters n p
       told u = unread-as u (sym (unread-refused u) ∙ e)
 
-      go-room : isHeaded r ≡ true → areLetters ls ≡ true → areLines (bodyIn r) ≡ true → (t : Bool) → leb (length (nameIn r)) names ≡ t
-          → (u : Bool) → leb (length ls) letters ≡ u → Unread r names letters n p
-      go-room headed lettered lines false q u v =
-          told (short (own-record r headed lettered lines) (inl (leb-false (length (nameIn r)) names q)))
-      go-room headed lettered lines true q false v =
-          told (short (own-record r headed lettered lines) (inr (leb-false (length ls) letters v)))
-      go-room headed lettered lines true q true v =
-          let enough = leb-true (length (nameIn r)) names q in
-          absurd (given-not-refused (sym (reading-given r names letters headed lettered lines enough (leb-true (length ls) letters v)) ∙ e))
+      room : {nm own-letters : List ℕ} → IsRecord r nm own-letters → (t : Bool) → leb (length nm) names ≡ t → (u : Bool)
+          → leb (length own-letters) letters ≡ u
+          → Unread r names letters n p
+      room {nm} is false q u v = told (short is (inl (leb-false (length nm) names q)))
+      room {own-letters = own-letters} is true q false v = told (short is (inr (leb-false (length own-letters) letters v)))
+      room {nm} {own-letters} is true q true v =
+          let says = record-given is (leb-true (length nm) names q) (leb-true (length own-letters) letters v) in
+          absurd (given-not-refused (sym says ∙ e))
 
-      go-lines : isHeaded r ≡ true → areLetters ls ≡ true → (t : Bool) → areLines (bodyIn r) ≡ t → Unread r names letters n p
-      go-lines headed lettered false q =
-          told (departs (line (headed-begins r headed) lettered (λ own. not-both (lined-lines (bodyIn r) own) q)))
-      go-lines headed lettered true q = go-room headed lettered q (leb (length (nameIn r)) names) refl (leb (length ls) letters) refl
+      go : Judged r → Unread r names letters n p
+      go (keeps {name = nm} {ls = own-letters} is) = room is (leb (length nm) names) refl (leb (length own-letters) letters) refl
+      go (breaks d) = told (departs d)
 
-      go-letters : isHeaded r ≡ true → (t : Bool) → areLetters ls ≡ t → Unread r names letters n p
-      go-letters headed false q = told (departs (letter (headed-begins r headed) (fault-of ls q)))
-      go-letters headed true q = go-lines headed q (areLines (bodyIn r)) refl
-
-      go-head : (t : Bool) → isHeaded r ≡ t → Unread r names letters n p
-      go-head false q = told (departs (name (λ nm body b. not-both (begins-headed b .headed) q)))
-      go-head true q = go-letters q (areLetters ls) refl
-
--- ---- the profile
-
--- each text is a record or departs from the profile
-pub judged : (r : List ℕ) → Judged r
-judged r = go-head (isHeaded r) refl
-  where
-    go-lines : isHeaded r ≡ true → areLetters (lettersIn (bodyIn r)) ≡ true → (t : Bool) → areLines (bodyIn r) ≡ t → Judged r
-    go-lines headed lettered true q = keeps (own-record r headed lettered q)
-    go-lines headed lettered false q = breaks (line (headed-begins r headed) lettered (λ own. not-both (lined-lines (bodyIn r) own) q))
-
-    go-letters : isHeaded r ≡ true → (t : Bool) → areLetters (lettersIn (bodyIn r)) ≡ t → Judged r
-    go-letters headed true q = go-lines headed q (areLines (bodyIn r)) refl
-    go-letters headed false q = breaks (letter (headed-begins r headed) (fault-of (lettersIn (bodyIn r)) q))
-
-    go-head : (t : Bool) → isHeaded r ≡ t → Judged r
-    go-head true q = go-letters q (areLetters (lettersIn (bodyIn r))) refl
-    go-head false q = breaks (name (λ nm body b. not-both (begins-headed b .headed) q))
-
--- not both
+-- a record departs in no way
 pub record-keeps : {r name ls : List ℕ} {n p : ℕ} → IsRecord r name ls → Departs r n p → ⊥
-record-keeps {r} {name = nm} {ls = of} is d =
-    let own : Own r nm of = rw (is .is) (own-parts nm of (is .named) (is .lettered)) in
-    let names = length (nameIn r) in
-    let letters = length (lettersIn (bodyIn r)) in
-    let held = ap areLetters (own .letters-are) ∙ is .lettered in
-    let says = reading-given r names letters (own .headed) held (own .lines) (omega arith) (omega arith) in
-    given-not-refused (sym says ∙ departs-refused r names letters d)
+record-keeps {r} {name = nm} {ls = own-letters} is d =
+    let says = record-given {names = length nm} {letters = length own-letters} is (omega arith) (omega arith) in
+    given-not-refused (sym says ∙ departs-refused r (length nm) (length own-letters) d)
 
--- and in one way at most
+-- and what departs does so in one way
 pub departs-one : {r : List ℕ} {n p m q : ℕ} → Departs r n p → Departs r m q → (n ≡ m) × (p ≡ q)
-departs-one {r} {n} {p} {m} {q} d e =
-    let z : _≡_ {A = Answer (ℕ × ℕ)} (refused n p) (refused m q) = sym (departs-refused r 0 0 d) ∙ departs-refused r 0 0 e in
-    let x : n ≡ m = cc in
-    let y : p ≡ q = cc in
-    (x, y)
-
--- ---- what reading answers
+departs-one {r} d e = refusal-parts (sym (departs-refused r 0 0 d) ∙ departs-refused r 0 0 e)
 
 module _ {r a b a′ b′ : List ℕ} {q : Parsed} (did : Reads r a b q a′ b′) {n p : ℕ} where
   -- a refusal says why
@@ -200,7 +174,7 @@ module _ {r a b a′ b′ : List ℕ} {q : Parsed} (did : Reads r a b q a′ b�
 
 unwritten-as : {name ls : List ℕ} {room n p m q : ℕ} → Unwritten name ls room m q → _≡_ {A = Answer ℕ} (refused m q) (refused n p)
     → Unwritten name ls room n p
-unwritten-as {n = n} {p = p} {m = m} {q = q} u e = let x : m ≡ n = cc in let y : q ≡ p = cc in rw y at (rw x at u)
+unwritten-as u e = let same = refusal-parts e in rw (same .1) at (rw (same .0) at u)
 
 module _ (nm ls : List ℕ) (room : ℕ) where
   abbrev bytes : ℕ

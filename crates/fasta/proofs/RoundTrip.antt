@@ -1,10 +1,8 @@
 -- "A record written and read gives name and letters again", and a record that is read, written again, is its own bytes: what is written is a
 -- record, what is read is one, and each record is written and read. Assumes nothing.
 use mathlib.Core.Path.{_≡_, sym, ap, _∙_}
-use mathlib.Core.Bool.{true}
 use mathlib.Core.List.{List, _++_}
 use Prim.Native.Nat.{ℕ, _≤_}
-use native.Mathlib.Omega.{arith}
 use lib.ListN.{length, take, drop}
 use lib.Seq.{take-append-seam}
 use Rattle.answers.specs.Numbers.{Name, Letter, Line}
@@ -17,8 +15,8 @@ use Rattle.fasta.specs.Reading.{nameIn, isHeaded, bodyIn, lettersIn, are
 use Rattle.fasta.specs.Profile.{IsRecord}
 use Rattle.fasta.specs.declared.writing.Recorded.{Recorded}
 use Rattle.fasta.specs.declared.reading.Parsed.{Parsed}
-use Rattle.fasta.proofs.ByTests.{writing-given, reading-given}
-use Rattle.fasta.proofs.ProfileLaws.{own-record, Own, own-parts}
+use Rattle.fasta.proofs.ByTests.{writing-given}
+use Rattle.fasta.proofs.ProfileLaws.{own-record, record-own, record-given}
 
 -- ---- writing
 
@@ -60,13 +58,6 @@ given-of r names letters v says =
     let z = first-passed (areLines (bodyIn r)) Line 0 _ lengths v (y .1) in
     (own-record r (x .0) (y .0) (z .0), first-value _ lengths v says)
 
--- and of a record it is given
-of-record : {r name ls : List ℕ} {names letters : ℕ} → Own r name ls → areLetters ls ≡ true → length name ≤ names → length ls ≤ letters
-    → reading r names letters ≡ given (length (nameIn r), length (lettersIn (bodyIn r)))
-of-record {r} {names = names} {letters = letters} own lettered h g =
-    reading-given r names letters (own .headed) (ap areLetters (own .letters-are) ∙ lettered) (own .lines)
-    (omega (arith, ap length (own .name-is))) (omega (arith, ap length (own .letters-are)))
-
 module _ {r a b a′ b′ : List ℕ} {q : Parsed} (did : Reads r a b q a′ b′) where
   -- what is read is a record, of the name and the letters that are handed back
   pub read-is-record : {n k : ℕ} → saysParsed q ≡ given (n, k) → IsRecord r (take n a′) (take k b′)
@@ -87,8 +78,8 @@ module _ {r a b a′ b′ : List ℕ} {q : Parsed} (did : Reads r a b q a′ b�
   pub record-is-read : {name ls : List ℕ} → IsRecord r name ls → length name ≤ length a → length ls ≤ length b
       → (saysParsed q ≡ given (length name, length ls)) × (a′ ≡ name ++ drop (length name) a) × (b′ ≡ ls ++ drop (length ls) b)
   record-is-read {name} {ls} is h g =
-      let own : Own r name ls = rw (is .is) (own-parts name ls (is .named) (is .lettered)) in
-      let says = of-record own (is .lettered) h g in
+      let own = record-own is in
+      let says = record-given is h g in
       let names : a′ ≡ nameIn r ++ drop (length (nameIn r)) a = rw says at (did .in-name) in
       let letters : b′ ≡ lettersIn (bodyIn r) ++ drop (length (lettersIn (bodyIn r))) b = rw says at (did .in-letters) in (
         did .answer ∙ says ∙ ap (λ (xs : List ℕ). given (length xs, length (lettersIn (bodyIn r)))) (own .name-is)

@@ -3,7 +3,8 @@ use mathlib.Core.Path.{_≡_, sym, ap, _∙_}
 use mathlib.Core.List.{List, _++_}
 use Prim.Native.Nat.{ℕ, _+_, _≤_}
 use native.Mathlib.Omega.{arith}
-use lib.ListN.{length, drop, length-append}
+use lib.ListN.{length, take, drop, length-append}
+use lib.Seq.{take-append-seam}
 use Rattle.block.proofs.PutLaws.{put-start}
 use Rattle.text.specs.Text.{Printed}
 use Rattle.text.specs.Putting.{Put}
@@ -23,6 +24,13 @@ module _ {Prints : List ℕ → Type 0} where
   pub printed-fits : {n : ℕ} {before after : List ℕ} → Printed Prints before n after → n ≤ length after
   printed-fits {n} {before} did =
       omega (arith, did .count, ap length (did .output), length-append (did .bytes) (drop n before))
+
+  -- it stands at the start
+  pub printed-bytes : {n : ℕ} {before after : List ℕ} (did : Printed Prints before n after) → take n after ≡ did .bytes
+  printed-bytes {n} {before} did =
+      ap (take n) (did .output)
+      ∙ ap (λ (k : ℕ). take k (did .bytes ++ drop n before)) (did .count)
+      ∙ take-append-seam (did .bytes) (drop n before)
 
   -- where one thing at most is printed, one outcome at most is right
   pub printed-one : ((xs ys : List ℕ) → Prints xs → Prints ys → xs ≡ ys) → {before after after′ : List ℕ} {n n′ : ℕ}

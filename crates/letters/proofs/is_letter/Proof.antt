@@ -3,8 +3,6 @@ use Rattle.letters.proofs.Laws.{letter-compared}
 use borrow.Author.Needs.{needs}
 use Rattle.letters.proofs.is_letter.Statement.{statement}
 use Rattle.letters.proofs.is_letter.Tie as tie
-use Rattle.letters.proofs.is_letter.Reads as reads
-use Rattle.letters.proofs.is_letter.Lts as lts
 
 array-read-result : tie.Need-array-read-result
 array-read-result c = search needs
