@@ -1,4 +1,4 @@
-//! Finds the archive of the compiled library, and compiles the walk in plain C.
+//! Finds the archive of the compiled library, and compiles what is in plain C.
 //!
 //! BELFRYMIST_LIB names the folder of the archive. CC and AR name the compiler
 //! and the archiver, where these are not gcc and ar.
@@ -6,8 +6,9 @@
 use std::path::{Path, PathBuf};
 use std::process::Command;
 
-/// The folder of the C sources.
+/// The folder of the C sources, and those that are compiled.
 const SOURCES: &str = "../c";
+const COMPILED: [&str; 2] = ["walk", "card"];
 
 fn main() {
     println!("cargo:rerun-if-changed=build.rs");
@@ -24,26 +25,30 @@ fn main() {
     println!("cargo:rerun-if-changed={SOURCES}");
     println!("cargo:rerun-if-env-changed=CC");
     println!("cargo:rerun-if-env-changed=AR");
-    // Only `bench` and the test of the C walk want it.
+    // Only `bench` and the tests of the C code want it.
     if let Err(what) = compile() {
-        println!("cargo:warning=the C walk cannot be linked: {what}");
+        println!("cargo:warning=the C code cannot be linked: {what}");
     }
 }
 
-/// Compiles the C walk into an archive that is linked where it is called.
+/// Compiles the C code into an archive that is linked where it is called.
 fn compile() -> Result<(), String> {
     let folder = std::env::var("OUT_DIR").map_err(|error| error.to_string())?;
     let folder = PathBuf::from(folder);
-    let object = folder.join("walk.o");
-    let archive = folder.join("libplainwalk.a");
-    let source = Path::new(SOURCES).join("walk.c");
-    let mut compiler = Command::new(named("CC", "gcc"));
-    compiler.args(["-O3", "-std=c11", "-Wall", "-Wextra", "-fPIE", "-c"]);
-    run(compiler.arg(source).arg("-o").arg(&object))?;
+    let archive = folder.join("libplainc.a");
     let mut archiver = Command::new(named("AR", "ar"));
-    run(archiver.arg("crs").arg(&archive).arg(&object))?;
+    archiver.arg("crs").arg(&archive);
+    for name in COMPILED {
+        let source = Path::new(SOURCES).join(name).with_extension("c");
+        let object = folder.join(name).with_extension("o");
+        let mut compiler = Command::new(named("CC", "gcc"));
+        compiler.args(["-O3", "-std=c11", "-Wall", "-Wextra", "-fPIE", "-c"]);
+        run(compiler.arg(source).arg("-o").arg(&object))?;
+        archiver.arg(object);
+    }
+    run(&mut archiver)?;
     println!("cargo:rustc-link-search=native={}", folder.display());
-    println!("cargo:rustc-link-lib=static=plainwalk");
+    println!("cargo:rustc-link-lib=static=plainc");
     Ok(())
 }
 

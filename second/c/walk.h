@@ -3,10 +3,10 @@
 #ifndef PLAIN_WALK_H
 #define PLAIN_WALK_H
 
+#include "numbers.h"
+
 #include <stddef.h>
 #include <stdint.h>
-
-enum { MOST_ENTRIES = 504, SPAN_WIDTH = 8 };
 
 /* The numbers of the verdicts. */
 enum { SOLE = 1, SEVERAL = 2, NONE = 3, UNSETTLED = 4 };

@@ -3,7 +3,7 @@
 //! * [`answers`]: the answers of the library, as C passes them;
 //! * [`firmware`]: the compiled library, called through C;
 //! * [`independent`]: the answers of `second`, put as the library puts them;
-//! * [`plain`]: the walk in plain C, to be timed beside the library.
+//! * [`plain`]: the walk, and reading and writing, in plain C, to be timed beside the library.
 
 pub mod answers;
 pub mod firmware;

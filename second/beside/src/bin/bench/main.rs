@@ -1,6 +1,6 @@
 //! Times the compiled library beside the second implementation, its counts and what it settles beside its
-//! builds, its walk beside the one in plain C, and, on x86-64, the program `build` beside the program
-//! `report` of `second`: one table of ratios.
+//! builds, its walk, and reading and writing, beside plain C, and, on x86-64, the program `build` beside the
+//! program `report` of `second`: one table of ratios.
 
 mod counting;
 mod fasta;

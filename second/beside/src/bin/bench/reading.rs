@@ -1,11 +1,14 @@
-//! Reading and writing cards.
+//! Reading and writing cards, beside `second` and beside plain C.
 
 use std::hint::black_box;
 
-use beside::answers::WriteAnswer;
+use beside::answers::{Held, WriteAnswer};
+use beside::plain::card as plain;
 use beside::{firmware, independent};
+use second::block;
 use second::cards::{Draft, Random};
 use second::lists::Lists;
+use second::numbers::BLOCK;
 use second::profile::Kind;
 use second::reader::{self, Head};
 
@@ -19,19 +22,27 @@ pub struct Sample {
 }
 
 impl Sample {
-    /// Says whether the two sides admit the card and write it again as it is.
+    /// Says whether all sides find its blocks sound, admit the card and write it again as it is.
     fn is_agreed_on(&self) -> bool {
         let Sample { card, lists, .. } = self;
-        let mut by_library = vec![0; card.len()];
-        let mut by_second = by_library.clone();
-        let library = library_write(lists, &mut by_library);
-        let second = lists.write(&mut by_second);
-        firmware::admit(card) == independent::admit(card)
+        let companions = [
+            firmware::companion,
+            independent::companion,
+            plain::companion,
+        ];
+        let holds =
+            |k: usize| companions.map(|companion| companion(card, k)) == [Held::default(); 3];
+        let admitted = [firmware::admit, plain::admit].map(|admit| admit(card));
+        let writers: [Writer; 3] = [firmware::write, independent::write, plain::write];
+        let is_written_by = |write: Writer| {
+            let mut out = vec![0; card.len()];
+            let answer = written_by(write, lists, &mut out);
+            (answer.number, answer.length) == (0, card.len()) && out == *card
+        };
+        (0..card.len() / BLOCK).all(holds)
             && reader::admit(card).is_ok()
-            && (library.number, library.length) == (0, card.len())
-            && second == Ok(card.len())
-            && by_library == *card
-            && by_second == *card
+            && admitted == [independent::admit(card); 2]
+            && writers.into_iter().all(is_written_by)
     }
 }
 
@@ -51,28 +62,34 @@ pub fn samples(random: &mut Random) -> Vec<Sample> {
     samples
 }
 
-/// The calls that read and write these cards, where the two sides agree on them.
+/// The calls that read and write these cards, where all sides agree on them.
 pub fn operations(samples: &[Sample]) -> Result<Vec<Operation<'_>>, String> {
-    // A time means nothing where the two do not agree.
+    // A time means nothing where they do not agree.
     if let Some(sample) = samples.iter().find(|sample| !sample.is_agreed_on()) {
-        return Err(format!("the two differ on the {}", sample.name));
+        return Err(format!("the sides differ on the {}", sample.name));
     }
-    let mut operations: Vec<Operation> = samples.iter().map(admit).collect();
-    operations.extend(samples[..2].iter().map(|sample| entry(sample, 503)));
-    operations.extend(samples[..2].iter().map(|sample| step(sample, 503)));
-    operations.extend(samples.iter().map(write));
+    // Those with a full block or more, and the full ones alone.
+    let (long, full) = (&samples[..4], &samples[..2]);
+    let mut operations = companions(&full[0], 0);
+    operations.extend(samples.iter().map(admit_beside_second));
+    operations.extend(long.iter().map(admit_beside_c));
+    operations.extend(full.iter().map(|sample| entry(sample, 503)));
+    operations.extend(full.iter().map(|sample| step(sample, 503)));
+    operations.extend(samples.iter().map(write_beside_second));
+    operations.extend(long.iter().map(write_beside_c));
     Ok(operations)
 }
 
 /// One call on each side.
 fn operation<'a>(
     name: String,
+    beside: Beside,
     library: impl FnMut() + 'a,
     other: impl FnMut() + 'a,
 ) -> Operation<'a> {
     Operation {
         name,
-        beside: Beside::Second,
+        beside,
         rounds: ROUNDS,
         calls: 1,
         library: Box::new(library),
@@ -80,13 +97,39 @@ fn operation<'a>(
     }
 }
 
-/// Admitting this card.
-fn admit(sample: &Sample) -> Operation<'_> {
+/// The companion of block k of this card, beside `second` and beside C.
+fn companions(sample: &Sample, k: usize) -> Vec<Operation<'_>> {
+    let card = &sample.card;
+    let name = format!("companion of block {k}, {}", sample.name);
+    let library = move || _ = black_box(firmware::companion(black_box(card), black_box(k)));
+    let second = move || _ = black_box(block::companion(black_box(card), black_box(k)));
+    let c = move || _ = black_box(plain::companion(black_box(card), black_box(k)));
+    vec![
+        operation(name.clone(), Beside::Second, library, second),
+        operation(name, Beside::C, library, c),
+    ]
+}
+
+/// Admitting this card, beside `second`.
+fn admit_beside_second(sample: &Sample) -> Operation<'_> {
+    admit(sample, Beside::Second, |card| {
+        _ = black_box(reader::admit(card));
+    })
+}
+
+/// Admitting this card, beside C.
+fn admit_beside_c(sample: &Sample) -> Operation<'_> {
+    admit(sample, Beside::C, |card| _ = black_box(plain::admit(card)))
+}
+
+/// Admitting this card by the library, beside another call on it.
+fn admit(sample: &Sample, beside: Beside, other: fn(&[u8])) -> Operation<'_> {
     let card = &sample.card;
     operation(
         format!("admit {}", sample.name),
+        beside,
         || _ = black_box(firmware::admit(black_box(card))),
-        || _ = black_box(reader::admit(black_box(card))),
+        move || other(black_box(card)),
     )
 }
 
@@ -95,6 +138,7 @@ fn entry(sample: &Sample, i: usize) -> Operation<'_> {
     let card = &sample.card;
     operation(
         format!("entry {i} of {}", sample.name),
+        Beside::Second,
         move || _ = black_box(firmware::entry(black_box(card), black_box(i))),
         move || _ = black_box(reader::entry(black_box(card), black_box(i))),
     )
@@ -105,31 +149,47 @@ fn step(sample: &Sample, at: usize) -> Operation<'_> {
     let card = &sample.card;
     operation(
         format!("step {at} of {}", sample.name),
+        Beside::Second,
         move || _ = black_box(firmware::step(black_box(card), black_box(at))),
         move || _ = black_box(black_box(Head { at }).step(black_box(card))),
     )
 }
 
-/// Writing the card's lists into an output of its size.
-fn write(sample: &Sample) -> Operation<'_> {
+/// Writing the card's lists, beside `second`.
+fn write_beside_second(sample: &Sample) -> Operation<'_> {
+    write(sample, Beside::Second, |lists, out| {
+        _ = black_box(lists.write(out));
+    })
+}
+
+/// Writing the card's lists, beside C.
+fn write_beside_c(sample: &Sample) -> Operation<'_> {
+    write(sample, Beside::C, |lists, out| {
+        _ = black_box(written_by(plain::write, lists, out));
+    })
+}
+
+/// Writing the card's lists by the library, beside another call on them, each into an output of the card's size.
+fn write(sample: &Sample, beside: Beside, other: fn(&Lists, &mut [u8])) -> Operation<'_> {
     let lists = &sample.lists;
     let mut for_library = vec![0; lists.size()];
-    let mut for_second = for_library.clone();
+    let mut for_other = for_library.clone();
     operation(
         format!("write {}", sample.name),
+        beside,
         move || {
             let out = black_box(&mut for_library);
-            _ = black_box(library_write(black_box(lists), out));
+            _ = black_box(written_by(firmware::write, black_box(lists), out));
         },
-        move || {
-            let out = black_box(&mut for_second);
-            _ = black_box(black_box(lists).write(out));
-        },
+        move || other(black_box(lists), black_box(&mut for_other)),
     )
 }
 
-/// Has the library write these lists.
-fn library_write(lists: &Lists, out: &mut [u8]) -> WriteAnswer {
+/// A call that writes the card of a kind and l whose entries stand in three lists.
+type Writer = fn(usize, usize, &[u32], &[u16], &[u16], &mut [u8]) -> WriteAnswer;
+
+/// What such a call answers for these lists.
+fn written_by(write: Writer, lists: &Lists, out: &mut [u8]) -> WriteAnswer {
     let Lists {
         kind,
         l,
@@ -137,5 +197,5 @@ fn library_write(lists: &Lists, out: &mut [u8]) -> WriteAnswer {
         ones,
         twos,
     } = lists;
-    firmware::write(*kind, *l, words, ones, twos, out)
+    write(*kind, *l, words, ones, twos, out)
 }

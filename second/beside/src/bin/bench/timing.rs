@@ -11,7 +11,7 @@ const ROUND: Duration = Duration::from_micros(300);
 /// The rounds that each side takes, where no call is much longer than that.
 pub const ROUNDS: usize = 301;
 
-/// What the library is set beside: `second`, the same with the bytes of a call, the walk in C, or its own builds.
+/// What the library is set beside: `second`, the same with the bytes of a call, plain C, or its own builds.
 #[derive(Clone, Copy, PartialEq, Eq)]
 pub enum Beside {
     Second,

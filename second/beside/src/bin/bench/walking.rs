@@ -3,7 +3,7 @@
 use std::hint::black_box;
 
 use beside::answers::BuildAnswer;
-use beside::plain::Sound;
+use beside::plain::walk::Sound;
 use beside::{firmware, independent};
 use second::cards::Random;
 use second::entry::Stored;
