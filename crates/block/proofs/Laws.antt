@@ -15,20 +15,20 @@ use Rattle.answers.specs.Answer.{Answer, given, refused, Sound, sound, Test, te
 use Rattle.answers.specs.Row.{inTurn}
 use Rattle.answers.proofs.Laws.{first-pass, first-fail, first-last, first-passed, first-holds, first-refused, first-given-any, first-refused-any}
 use Rattle.answers.proofs.Only.{Only, Numbered, none, also}
-use Rattle.block.specs.declared.Sums.{Sums}
+use Rattle.block.specs.declared.check.CheckBytes.{CheckBytes}
 use Rattle.block.specs.Bytes.{AreBytes}
-use Rattle.block.specs.Check.{sumsOf, checks, checkAt}
+use Rattle.block.specs.Check.{checkBytes, checks, checkAt}
 use Rattle.block.specs.Block.{blockBytes, blockAt, indexOf, blockTests, fetchTests, partOf, fetchOf, placeOf, startOf, offsetOf}
 
 -- ---- the check
 
--- by its sums: a first, and then b
-module _ (b : List ℕ) (s : Sums) (e : s ≡ sumsOf (take checkAt b)) where
-  pub checks-not : (s .a ≡ getD b checkAt 0 → ⊥) → false ≡ checks b
+-- by the check bytes: the first of them, and then the second
+module _ (b : List ℕ) (c : CheckBytes) (e : c ≡ checkBytes (take checkAt b)) where
+  pub checks-not : (c .first ≡ getD b checkAt 0 → ⊥) → false ≡ checks b
   unfolding checks
   checks-not h = simp (← e, ne-eqb _ _ h)
 
-  pub checks-when : s .a ≡ getD b checkAt 0 → eqb (s .b) (getD b (checkAt + 1) 0) ≡ checks b
+  pub checks-when : c .first ≡ getD b checkAt 0 → eqb (c .second) (getD b (checkAt + 1) 0) ≡ checks b
   unfolding checks
   checks-when h = simp (← e, eq-eqb _ _ h)
 
@@ -60,7 +60,7 @@ unfolding blockAt
 block-in-place p b q k hp hb = rw (drop-at p (b ++ q) (blockBytes * k) hp, take-at b q blockBytes hb)
 
 -- the first of some bytes are bytes
-take-bytes : (n : ℕ) (xs : List ℕ) → AreBytes xs → AreBytes (take n xs)
+pub take-bytes : (n : ℕ) (xs : List ℕ) → AreBytes xs → AreBytes (take n xs)
 take-bytes zero xs bytes i = omega arith
 take-bytes (suc n) [] bytes i = omega arith
 take-bytes (suc n) (x ∷ xs) bytes zero = bytes 0

@@ -1,9 +1,10 @@
 -- `Fold` is for loops that fold a list, `Laws` has what this crate's proofs and the crates above cite of fetching, `PutLaws` of numbers in
--- bytes and of writing them, `SealingLaws` of sealed blocks; `Determined` says that each contract has one outcome, `Vectors` has the scope's
--- worked examples.
+-- bytes and of writing them, `SealingLaws` of sealed blocks, `PlainLaws` of the sums as the code works them out; `Determined` says that each
+-- contract has one outcome, `Vectors` has the scope's worked examples.
 pub mod Fold
 pub mod Laws
 pub mod PutLaws
 pub mod SealingLaws
+pub mod PlainLaws
 pub mod Determined
 pub mod Vectors

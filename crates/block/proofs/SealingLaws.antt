@@ -12,9 +12,9 @@ use borrow.Author.Tests.{eq-eqb, eqb-true}
 use Rattle.answers.specs.Answer.{given, sound, first}
 use Rattle.answers.proofs.Laws.{first-passed}
 use Rattle.answers.proofs.Tests.{both}
-use Rattle.block.specs.declared.Sums.{Sums}
+use Rattle.block.specs.declared.check.CheckBytes.{CheckBytes}
 use Rattle.block.specs.Bytes.{twoAt, twoBytes, putAt, AreBytes}
-use Rattle.block.specs.Check.{sumsOf, checks, checkAt}
+use Rattle.block.specs.Check.{checkBytes, checks, checkAt}
 use Rattle.block.specs.Block.{blockBytes, indexAt, indexOf, blockTests}
 use Rattle.block.specs.Sealing.{checked, sealed}
 use Rattle.block.proofs.Laws.{block-sound}
@@ -27,8 +27,8 @@ spares own = replicate (indexAt - length own) 0
 abbrev body : List ℕ → ℕ → List ℕ
 body own k = own ++ (spares own ++ twoBytes k)
 
-abbrev sums : List ℕ → List ℕ
-sums xs = sumsOf xs .a ∷ sumsOf xs .b ∷ []
+abbrev check : List ℕ → List ℕ
+check xs = checkBytes xs .first ∷ checkBytes xs .second ∷ []
 
 module _ (own : List ℕ) (k : ℕ) (fits : length own ≤ indexAt) where
   length-front : length (own ++ spares own) ≡ indexAt
@@ -46,40 +46,41 @@ module _ (own : List ℕ) (k : ℕ) (fits : length own ≤ indexAt) where
 
   pub length-sealed : length (sealed own k) ≡ blockBytes
   unfolding sealed checked
-  length-sealed = omega (arith, length-append (body own k) (sums (body own k)), length-body)
+  length-sealed = omega (arith, length-append (body own k) (check (body own k)), length-body)
 
   -- the own bytes stand first
-  pub sealed-own : sealed own k ≡ own ++ (spares own ++ twoBytes k ++ sums (body own k))
+  pub sealed-own : sealed own k ≡ own ++ (spares own ++ twoBytes k ++ check (body own k))
   unfolding sealed checked
-  sealed-own = append-assoc own (spares own ++ twoBytes k) (sums (body own k))
+  sealed-own = append-assoc own (spares own ++ twoBytes k) (check (body own k))
 
   -- with the zeros after them
-  sealed-front : sealed own k ≡ own ++ spares own ++ (twoBytes k ++ sums (body own k))
+  sealed-front : sealed own k ≡ own ++ spares own ++ (twoBytes k ++ check (body own k))
   sealed-front =
       sealed-own
-      ∙ ap (λ (xs : List ℕ). own ++ xs) (append-assoc (spares own) (twoBytes k) (sums (body own k)))
-      ∙ sym (append-assoc own (spares own) (twoBytes k ++ sums (body own k)))
+      ∙ ap (λ (xs : List ℕ). own ++ xs) (append-assoc (spares own) (twoBytes k) (check (body own k)))
+      ∙ sym (append-assoc own (spares own) (twoBytes k ++ check (body own k)))
 
   -- up to the index there are zeros
   pub sealed-spare : drop (length own) (take indexAt (sealed own k)) ≡ spares own
   sealed-spare =
       ap (λ (xs : List ℕ). drop (length own) (take indexAt xs)) sealed-front
-      ∙ ap (drop (length own)) (take-at (own ++ spares own) (twoBytes k ++ sums (body own k)) indexAt length-front)
+      ∙ ap (drop (length own)) (take-at (own ++ spares own) (twoBytes k ++ check (body own k)) indexAt length-front)
       ∙ drop-at own (spares own) (length own) refl
 
   sealed-index : indexOf (sealed own k) ≡ k
   unfolding indexOf
   sealed-index =
-      ap (λ (xs : List ℕ). twoAt xs indexAt) sealed-front ∙ two-read (own ++ spares own) (sums (body own k)) indexAt k length-front
+      ap (λ (xs : List ℕ). twoAt xs indexAt) sealed-front ∙ two-read (own ++ spares own) (check (body own k)) indexAt k length-front
 
   sealed-checks : checks (sealed own k) ≡ true
   unfolding checks sealed checked
   sealed-checks =
       let xs = body own k in
-      let start : take checkAt (xs ++ sums xs) ≡ xs = take-at xs (sums xs) checkAt length-body in
-      let a : getD (xs ++ sums xs) checkAt 0 ≡ sumsOf xs .a = getD-at xs (sumsOf xs .a) (sumsOf xs .b ∷ []) 0 checkAt length-body in
-      let b : getD (xs ++ sums xs) (checkAt + 1) 0 ≡ sumsOf xs .b = rw length-body at (getD-append-add xs (sums xs) 1 0) in
-      simp (start, a, b, eq-eqb (sumsOf xs .a) (sumsOf xs .a) refl, eq-eqb (sumsOf xs .b) (sumsOf xs .b) refl)
+      let c = checkBytes xs in
+      let start : take checkAt (xs ++ check xs) ≡ xs = take-at xs (check xs) checkAt length-body in
+      let one : getD (xs ++ check xs) checkAt 0 ≡ c .first = getD-at xs (c .first) (c .second ∷ []) 0 checkAt length-body in
+      let two : getD (xs ++ check xs) (checkAt + 1) 0 ≡ c .second = rw length-body at (getD-append-add xs (check xs) 1 0) in
+      simp (start, one, two, eq-eqb (c .first) (c .first) refl, eq-eqb (c .second) (c .second) refl)
 
   -- what is sealed as block k holds as block k
   pub sealed-holds : first (blockTests (sealed own k) k) sound ≡ given sound
@@ -97,15 +98,15 @@ module _ (b : List ℕ) (k : ℕ) (whole : length b ≡ blockBytes) (held : firs
   unfolding blockTests
   held-checks = first-passed _ _ _ _ _ _ held .0
 
-  held-sums : drop checkAt b ≡ sums (take checkAt b)
+  held-last : drop checkAt b ≡ check (take checkAt b)
   unfolding checks
-  held-sums =
-      let xs = take checkAt b in
-      let h = both (eqb (sumsOf xs .a) (getD b checkAt 0)) (eqb (sumsOf xs .b) (getD b (checkAt + 1) 0)) held-checks in
-      let a = eqb-true (sumsOf xs .a) (getD b checkAt 0) (h .0) in
-      let c = eqb-true (sumsOf xs .b) (getD b (checkAt + 1) 0) (h .1) in
+  held-last =
+      let c = checkBytes (take checkAt b) in
+      let h = both (eqb (c .first) (getD b checkAt 0)) (eqb (c .second) (getD b (checkAt + 1) 0)) held-checks in
+      let one = eqb-true (c .first) (getD b checkAt 0) (h .0) in
+      let two = eqb-true (c .second) (getD b (checkAt + 1) 0) (h .1) in
       let rest : drop (checkAt + 2) b ≡ [] = drop-of-length-le b {i = checkAt + 2} (omega arith) in
-      rw (a, c) (drop-two b checkAt (omega arith) ∙ ap (λ (ys : List ℕ). getD b checkAt 0 ∷ getD b (checkAt + 1) 0 ∷ ys) rest)
+      rw (one, two) (drop-two b checkAt (omega arith) ∙ ap (λ (ys : List ℕ). getD b checkAt 0 ∷ getD b (checkAt + 1) 0 ∷ ys) rest)
 
   module _ (bytes : AreBytes b) (own : List ℕ) (fits : length own ≤ indexAt) where
     pub sealed-again : own ++ drop (length own) b ≡ b → drop (length own) (take indexAt b) ≡ spares own → sealed own k ≡ b
@@ -125,7 +126,7 @@ module _ (b : List ℕ) (k : ℕ) (whole : length b ≡ blockBytes) (held : firs
         ∙ stands in
         let front : take checkAt b ≡ body own k =
         ap (take checkAt) (sym whole-body) ∙ take-at (body own k) (drop checkAt b) checkAt (length-body own k fits) in
-        ap (λ (xs : List ℕ). body own k ++ sums xs) (sym front) ∙ ap (λ (xs : List ℕ). body own k ++ xs) (sym held-sums) ∙ whole-body
+        ap (λ (xs : List ℕ). body own k ++ check xs) (sym front) ∙ ap (λ (xs : List ℕ). body own k ++ xs) (sym held-last) ∙ whole-body
 
 -- ---- as the code makes it: the own bytes, zeros, the index, the check
 
@@ -153,18 +154,19 @@ module _ (l : List ℕ) (n k : ℕ) (whole : length l ≡ blockBytes) (fits : n 
     length-made = length-body (take n l) k (omega (arith, length-own))
 
     -- with the check
-    pub seal-made : (s : Sums) → s ≡ sumsOf (take checkAt l₂) → set (set l₂ checkAt (s .a)) (checkAt + 1) (s .b) ≡ sealed (take n l) k
+    pub seal-made : (c : CheckBytes) → c ≡ checkBytes (take checkAt l₂)
+        → set (set l₂ checkAt (c .first)) (checkAt + 1) (c .second) ≡ sealed (take n l) k
     unfolding sealed checked
-    seal-made s e =
+    seal-made c e =
         let xs = body (take n l) k in
         let start : l₂ ≡ xs ++ drop checkAt l = seal-body ∙ put-start l xs ∙ ap (λ (i : ℕ). xs ++ drop i l) length-made in
         let front : take checkAt l₂ ≡ xs = ap (take checkAt) start ∙ take-at xs (drop checkAt l) checkAt length-made in
-        let made : s ≡ sumsOf xs = e ∙ ap sumsOf front in
-        let one : set l₂ checkAt (s .a) ≡ putAt (xs ++ (s .a ∷ [])) 0 l =
-        put-next l 0 xs seal-body (omega (arith, length-made)) (s .a) (omega arith) in
-        let two : set (set l₂ checkAt (s .a)) (checkAt + 1) (s .b) ≡ putAt (xs ++ (s .a ∷ []) ++ (s .b ∷ [])) 0 l =
-        put-next l 0 (xs ++ (s .a ∷ [])) one (omega (arith, length-append xs (s .a ∷ []), length-made)) (s .b) (omega arith) in
+        let made : c ≡ checkBytes xs = e ∙ ap checkBytes front in
+        let one : set l₂ checkAt (c .first) ≡ putAt (xs ++ (c .first ∷ [])) 0 l =
+        put-next l 0 xs seal-body (omega (arith, length-made)) (c .first) (omega arith) in
+        let two : set (set l₂ checkAt (c .first)) (checkAt + 1) (c .second) ≡ putAt (xs ++ (c .first ∷ []) ++ (c .second ∷ [])) 0 l =
+        put-next l 0 (xs ++ (c .first ∷ [])) one (omega (arith, length-append xs (c .first ∷ []), length-made)) (c .second) (omega arith) in
         two
-        ∙ ap (λ (ys : List ℕ). putAt ys 0 l) (append-assoc xs (s .a ∷ []) (s .b ∷ []))
-        ∙ put-whole l (xs ++ (s .a ∷ s .b ∷ [])) (omega (arith, length-append xs (s .a ∷ s .b ∷ []), length-made))
-        ∙ ap (λ (t : Sums). xs ++ (t .a ∷ t .b ∷ [])) made
+        ∙ ap (λ (ys : List ℕ). putAt ys 0 l) (append-assoc xs (c .first ∷ []) (c .second ∷ []))
+        ∙ put-whole l (xs ++ (c .first ∷ c .second ∷ [])) (omega (arith, length-append xs (c .first ∷ c .second ∷ []), length-made))
+        ∙ ap (λ (d : CheckBytes). xs ++ (d .first ∷ d .second ∷ [])) made

@@ -1,14 +1,16 @@
 -- The check of a block (01, "The card, block by block"): "byte 510 holds a, byte 511 holds b".
---   stepOf s x    == the sums s with one byte x more
---   sumsOf xs     == the sums of the bytes xs
---   checks b      == whether the check bytes of the block b are the sums of the bytes before them
+--   stepOf s x       == the sums s with one byte x more
+--   sumsOf xs        == the sums of the bytes xs
+--   checkBytes xs    == the two check bytes of the bytes xs
+--   checks b         == whether the check bytes of the block b are those of the bytes before them
 -- Assumes nothing.
 use Prim.Native.Nat.{ℕ, _+_, _%_}
 use mathlib.Core.Bool.{Bool, _&&_}
 use mathlib.Core.List.{List, foldl}
 use lib.ListN.{getD, take}
 use lib.Dec.{eqb}
-use Rattle.block.specs.declared.Sums.{Sums}
+use Rattle.block.specs.declared.check.CheckBytes.{CheckBytes}
+use Rattle.block.specs.declared.check.Sums.{Sums}
 
 -- "mod 255"
 abbrev pub modulus : ℕ
@@ -22,9 +24,13 @@ stepOf s x = record { a = (s .a + x) % modulus; b = (s .b + (s .a + x) % modulus
 unfoldable pub sumsOf : List ℕ → Sums
 sumsOf xs = foldl stepOf (record { a = 0; b = 0 }) xs
 
--- "bytes 0–509", and after them a and b
+-- "byte 510 holds a, byte 511 holds b"
+unfoldable pub checkBytes : List ℕ → CheckBytes
+checkBytes xs = record { first = sumsOf xs .a; second = sumsOf xs .b }
+
+-- "bytes 0–509", and after them the check bytes
 abbrev pub checkAt : ℕ
 checkAt = 510
 
 unfoldable pub checks : List ℕ → Bool
-checks b = eqb (sumsOf (take checkAt b) .a) (getD b checkAt 0) && eqb (sumsOf (take checkAt b) .b) (getD b (checkAt + 1) 0)
+checks b = eqb (checkBytes (take checkAt b) .first) (getD b checkAt 0) && eqb (checkBytes (take checkAt b) .second) (getD b (checkAt + 1) 0)

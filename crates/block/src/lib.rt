@@ -1,31 +1,22 @@
 // The blocks of a card: fetched where their check and their index hold, and sealed. This layer knows nothing of entries.
 // No function that the scope names has a `requires`: `fetch` and `companion` test their own input.
+mod check;
+
 ghost use mathlib.Core.Path.{_≡_};
 ghost use Prim.Native.Nat.{_+_, _*_, _-_, _≤_};
 ghost use lib.ListN.{length, take, replicate};
 ghost use Rattle.answers.specs.Answer.{first, sound, saysHeld};
 ghost use Rattle.block.specs.Bytes.{twoAt, fourAt, twoBytes, fourBytes, putAt};
-ghost use Rattle.block.specs.Check.{stepOf, sumsOf, checks};
 ghost use Rattle.block.specs.Block.{blockBytes, blockAt, indexAt, blockTests, fetchTests, fetchOf, placeOf, startOf};
 ghost use Rattle.block.specs.Sealing.{sealed};
 use answers::Held;
 use answers::Refusal;
+use check::CHECK_AT;
 
 // The bytes of a block.
 pub const BLOCK: usize = 512;
 // Where a block's index stands, after the bytes that are the card's own.
 pub const INDEX_AT: usize = 508;
-// Where a block's check stands, after the bytes that it is of.
-const CHECK_AT: usize = 510;
-
-// What the sums are taken modulo.
-const MODULUS: u32 = 255;
-
-// What the check bytes hold.
-pub struct Sums {
-    pub a: u8,
-    pub b: u8,
-}
 
 // The number in two bytes, the low one first.
 fn two(b0: u8, b1: u8) -> u16
@@ -52,49 +43,12 @@ pub fn four_at(part: &[u8], at: usize) -> u32
     low as u32 + 65536 * (high as u32)
 }
 
-// The sums with one byte more.
-fn step(s: Sums, x: u8) -> Sums
-    ensures { λ r. ⌜ r ≡ stepOf s x ⌝ }
-{
-    let a = (s.a as u32 + x as u32) % MODULUS;
-    let b = (s.b as u32 + a) % MODULUS;
-    Sums {
-        a: a as u8,
-        b: b as u8,
-    }
-}
-
-// The sums of all bytes of a slice.
-fn sum_up(bytes: &[u8]) -> Sums
-    ensures { λ r. ⌜ r ≡ sumsOf (now (bytes .entry)) ⌝ }
-{
-    let mut s = Sums { a: 0, b: 0 };
-    let mut i = 0;
-    while i < bytes.len() {
-        s = step(s, bytes[i]);
-        i += 1;
-    }
-    s
-}
-
-// Whether the check bytes of a block hold.
-fn check_holds(block: &[u8]) -> bool
-    requires { ⌜ length (now block) ≡ blockBytes ⌝ }
-    ensures { λ r. ⌜ r ≡ checks (now (block .entry)) ⌝ }
-{
-    let s = sum_up(&block[..CHECK_AT]);
-    if s.a != block[CHECK_AT] {
-        return false;
-    }
-    s.b == block[CHECK_AT + 1]
-}
-
 // Whether a block holds as block k: its check before its index.
 fn block_holds(block: &[u8], k: usize) -> Held
     requires { ⌜ length (now block) ≡ blockBytes ⌝ }
     ensures { λ r. ⌜ saysHeld r ≡ first (blockTests (now (block .entry)) k) sound ⌝ }
 {
-    if check_holds(block) {
+    if check::holds(block) {
         if two_at(block, INDEX_AT) as usize == k {
             Held::Holds
         } else {
@@ -183,7 +137,7 @@ pub fn seal(part: &mut [u8], n: usize, k: u16)
 {
     clear(part, n, INDEX_AT);
     put_two(part, INDEX_AT, k);
-    let s = sum_up(&part[..CHECK_AT]);
-    part[CHECK_AT] = s.a;
-    part[CHECK_AT + 1] = s.b;
+    let c = check::bytes_of(&part[..CHECK_AT]);
+    part[CHECK_AT] = c.first;
+    part[CHECK_AT + 1] = c.second;
 }

@@ -8,7 +8,7 @@ use Rattle.answers.specs.Numbers.{Short, Check, Form, Kind, Length, Count, Size
 use Rattle.answers.specs.Answer.{Answer, given, refused, first}
 use Rattle.answers.specs.Row.{inTurn}
 use Rattle.block.specs.Bytes.{twoAt, fourAt}
-use Rattle.block.specs.Check.{sumsOf, checks}
+use Rattle.block.specs.Check.{sumsOf, checkBytes, checks}
 use Rattle.block.specs.Block.{blockAt, indexOf, blockTests}
 use Rattle.entries.specs.declared.Format.{Format}
 use Rattle.entries.specs.declared.Places.the-variants.{Span}
@@ -37,7 +37,7 @@ s1 =
 -- admitting, with all that it rests on open to computation
 unfoldable admitting : List ℕ → Answer Format
 unfolding headOf s1 admission readingOrder headTests fieldTests laterTests slotsTests first inTurn
-    blockTests blockAt checks sumsOf indexOf twoAt fourAt formOf formatOf headSpare slotsSpare
+    blockTests blockAt checks checkBytes sumsOf indexOf twoAt fourAt formOf formatOf headSpare slotsSpare
     slotAt entryTests placesHold spanHolds pairHolds
 admitting card = admission mostEntries card
 

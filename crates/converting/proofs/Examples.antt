@@ -8,7 +8,7 @@ use Rattle.answers.specs.Answer.{first}
 use Rattle.answers.specs.Row.{row, inTurn}
 use Rattle.letters.specs.Letters.{letters, letterOf, searched, codeOf}
 use Rattle.block.specs.Bytes.{twoAt, fourAt, twoBytes, fourBytes}
-use Rattle.block.specs.Check.{sumsOf, checks}
+use Rattle.block.specs.Check.{sumsOf, checkBytes, checks}
 use Rattle.block.specs.Block.{blockAt, indexOf, blockTests}
 use Rattle.block.specs.Sealing.{checked, sealed}
 use Rattle.entries.specs.Slot.{slotAt, slotBytes, slotFrom}
@@ -46,7 +46,7 @@ unfoldable fromList : List ℕ → Streams
 unfolding toCard importing first inTurn textTests lineTests saidTests known isLine lineOf linesOf
     readLine readFirst after readCodes readListed readMarked readNumber readDigits codeOf searched letters
     listsTests slotFrom entryTests placesHold spanHolds pairHolds
-    cardIn cardOf blocksOf ownBytes headBytes slotsBytes slotBytes sealed checked sumsOf twoBytes fourBytes decimal digitsIn
+    cardIn cardOf blocksOf ownBytes headBytes slotsBytes slotBytes sealed checked checkBytes sumsOf twoBytes fourBytes decimal digitsIn
 fromList list = toCard mostEntries list
 
 pub gattaca-card : toCard mostEntries gattaca ≡ onOutput gattacaCard
@@ -66,7 +66,7 @@ carriage-returns = refl
 
 unfoldable fromCard : List ℕ → Streams
 unfolding toList exporting readingOrder headTests fieldTests laterTests slotsTests first inTurn row
-    blockTests blockAt checks sumsOf indexOf twoAt fourAt formOf formatOf headSpare slotsSpare
+    blockTests blockAt checks checkBytes sumsOf indexOf twoAt fourAt formOf formatOf headSpare slotsSpare
     slotAt slotOf entryTests placesHold spanHolds pairHolds listedFor lineText letters letterOf decimal digitsIn
 fromCard card = toList mostEntries card
 

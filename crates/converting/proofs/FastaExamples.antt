@@ -9,7 +9,7 @@ use Rattle.answers.specs.Answer.{Answer, given, refused, first}
 use Rattle.answers.specs.Row.{row, inTurn}
 use Rattle.letters.specs.Letters.{letters, letterOf, searched, codeOf}
 use Rattle.block.specs.Bytes.{twoAt, fourAt}
-use Rattle.block.specs.Check.{sumsOf, checks}
+use Rattle.block.specs.Check.{sumsOf, checkBytes, checks}
 use Rattle.block.specs.Block.{blockAt, indexOf, blockTests}
 use Rattle.entries.specs.declared.Format.{Format}
 use Rattle.entries.specs.Slot.{slotAt}
@@ -49,7 +49,7 @@ s2-format = record { kind = span; l = 2; m = 4 }
 
 s2-admitted : admission mostEntries s2Card ≡ given s2-format
 unfolding s2Card admission readingOrder headTests fieldTests laterTests slotsTests first inTurn
-    blockTests blockAt checks sumsOf indexOf twoAt fourAt formOf formatOf headSpare slotsSpare
+    blockTests blockAt checks checkBytes sumsOf indexOf twoAt fourAt formOf formatOf headSpare slotsSpare
     slotAt entryTests placesHold spanHolds pairHolds
 s2-admitted = refl
 

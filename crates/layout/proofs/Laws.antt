@@ -1,7 +1,7 @@
 -- The laws of a card's layout that this crate's proofs and the crates above cite. No contract cites this file. Assumes nothing.
-use mathlib.Core.Path.{_≡_}
+use mathlib.Core.Path.{_≡_, sym, ap, _∙_}
 use mathlib.Core.Logic.{_⊎_, inl, inr}
-use mathlib.Core.Bool.{true, false}
+use mathlib.Core.Bool.{Bool, true, false, _&&_, and-assoc, and-true}
 use mathlib.Core.List.{List}
 use Prim.Native.Nat.{ℕ, _+_, _*_, _/_, _≤_, _<_}
 use native.Mathlib.Numerals.{add-one}
@@ -18,17 +18,16 @@ use Rattle.entries.specs.Entry.{entryOf}
 use Rattle.layout.specs.Bounds.{isWithin, isKind}
 use Rattle.layout.specs.Layout.{toldBy, isZeros, headSpare, perBlock, sizeOf, slotOf, entryAt}
 
--- ---- zeros, looked at from the front
+-- ---- zeros, looked at from the front: `all` is whether those before i are, and `whole` what is asked
 
-module _ (l : List ℕ) (i : ℕ) where
-  pub zeros-turn : i < length l → getD l i 0 ≡ 0 → isZeros (drop (i + 1) l) ≡ isZeros (drop i l)
-  zeros-turn h z = rw (add-one, drop-cons l i 0 h, eq-eqb (getD l i 0) 0 z)
+module _ (l : List ℕ) (i : ℕ) (all whole : Bool) (so-far : (all && isZeros (drop i l)) ≡ whole) where
+  pub zeros-turn : i < length l → ((all && eqb (getD l i 0) 0) && isZeros (drop (i + 1) l)) ≡ whole
+  zeros-turn h =
+      let next : isZeros (drop i l) ≡ (eqb (getD l i 0) 0 && isZeros (drop (i + 1) l)) = rw (add-one, drop-cons l i 0 h) in
+      and-assoc all (eqb (getD l i 0) 0) (isZeros (drop (i + 1) l)) ∙ ap (λ (t : Bool). all && t) (sym next) ∙ so-far
 
-  pub zeros-stop : i < length l → (getD l i 0 ≡ 0 → ⊥) → false ≡ isZeros (drop i l)
-  zeros-stop h n = rw (drop-cons l i 0 h, ne-eqb (getD l i 0) 0 n)
-
-  pub zeros-end : length l ≤ i → true ≡ isZeros (drop i l)
-  zeros-end h = rw (drop-of-length-le l h)
+  pub zeros-end : length l ≤ i → all ≡ whole
+  zeros-end h = sym (and-true all) ∙ ap (λ (xs : List ℕ). all && isZeros xs) (sym (drop-of-length-le l h)) ∙ so-far
 
 -- ---- spare bytes of block 0
 

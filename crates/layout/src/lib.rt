@@ -147,19 +147,20 @@ pub fn entry_at(card: &[u8], kind: usize, e: usize) -> Entry
     entries::entry_of(kind, slot_of(card, e))
 }
 
-// Whether all bytes of a part from `from` on are zero.
+// Whether all bytes of a part from `from` on are zero. Each is looked at, with no way out before the last, so that the compiler can look at many
+// at once.
 fn is_zeros(part: &[u8], from: usize) -> bool
     requires { ⌜ from ≤ length (now part) ⌝ }
     ensures { λ r. ⌜ r ≡ isZeros (drop from (now (part .entry))) ⌝ }
 {
+    let n = part.len();
+    let mut all = true;
     let mut i = from;
-    while i < part.len() {
-        if part[i] != 0 {
-            return false;
-        }
+    while i < n {
+        all = all & (part[i] == 0);
         i += 1;
     }
-    true
+    all
 }
 
 // Whether the bytes of block 0 that must be zero are.

@@ -7,7 +7,7 @@ use Rattle.answers.specs.Numbers.{Kind, Length, Lists, Count, Word, Places, Roo
 use Rattle.answers.specs.Answer.{Answer, given, refused, first}
 use Rattle.answers.specs.Row.{inTurn}
 use Rattle.block.specs.Bytes.{twoBytes, fourBytes}
-use Rattle.block.specs.Check.{sumsOf}
+use Rattle.block.specs.Check.{sumsOf, checkBytes}
 use Rattle.block.specs.Sealing.{checked, sealed}
 use Rattle.entries.specs.Slot.{slotBytes, slotFrom}
 use Rattle.entries.specs.Fault.{pair, span, noPlace, pairHolds, spanHolds, placesHold, entryTests}
@@ -20,7 +20,7 @@ use Rattle.writer.specs.Writing.{writing}
 -- S1: AC[0,2] CA[1,3] AG[0,2] GA[1,3]
 pub s1-written :
     cardOf (formatFor span 2 (1 ∷ 4 ∷ 2 ∷ 8 ∷ [])) (slotFrom (1 ∷ 4 ∷ 2 ∷ 8 ∷ []) (0 ∷ 1 ∷ 0 ∷ 1 ∷ []) (2 ∷ 3 ∷ 2 ∷ 3 ∷ [])) ≡ s1
-unfolding cardOf blocksOf ownBytes headBytes slotsBytes slotBytes slotFrom inTurn sealed checked sumsOf twoBytes fourBytes headOf s1
+unfolding cardOf blocksOf ownBytes headBytes slotsBytes slotBytes slotFrom inTurn sealed checked checkBytes sumsOf twoBytes fourBytes headOf s1
 s1-written = refl
 
 -- what the writer is given, and what it answers

@@ -8,8 +8,8 @@ use Rattle.block.proofs.Laws.{block-unchecked, block-elsewhere, block-s
 use Rattle.block.proofs.block_holds.Statement.{statement}
 use Rattle.block.proofs.block_holds.Tie as tie
 
-check-holds-requires : tie.Need-check-holds-requires
-check-holds-requires c κs = search needs
+holds-requires : tie.Need-holds-requires
+holds-requires c κs = search needs
 
 two-at-requires : tie.Need-two-at-requires
 two-at-requires c κs = search needs
@@ -19,7 +19,7 @@ cast-if2 c = search needs
 
 -- the check's answer, and the index that was read, once the check held
 check-held : (c : tie.Then1) → checks (c .before .before .before .args .block .now) ≡ true
-check-held c = sym (c .before .check-holds .ensures) ∙ c .if1 .taken
+check-held c = sym (c .before .holds .ensures) ∙ c .if1 .taken
 
 index-read : (c : tie.After-two-at) → c .two-at .result ≡ indexOf (c .before .before .before .before .args .block .now)
 unfolding indexOf
@@ -32,8 +32,8 @@ returns-2 : tie.Need-returns-2
 returns-2 c = sym (block-elsewhere _ _ (check-held (c .before .before)) (λ e. c .if2 .left (index-read (c .before) ∙ e)))
 
 returns-3 : tie.Need-returns-3
-returns-3 c = sym (block-unchecked _ _ (sym (c .before .check-holds .ensures) ∙ c .if1 .left))
+returns-3 c = sym (block-unchecked _ _ (sym (c .before .holds .ensures) ∙ c .if1 .left))
 
 pub block-holds-spec : {M : Type 1} → statement M
 block-holds-spec =
-    tie.close (tie.spec check-holds-requires two-at-requires cast-if2 returns returns-2 returns-3)
+    tie.close (tie.spec holds-requires two-at-requires cast-if2 returns returns-2 returns-3)

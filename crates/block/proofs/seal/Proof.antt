@@ -20,14 +20,14 @@ clear-requires c κs = search needs
 put-two-requires : tie.Need-put-two-requires
 put-two-requires c κs = search needs
 
-slice-reshare-prefix-sum-up : tie.Need-slice-reshare-prefix-sum-up
-slice-reshare-prefix-sum-up c = search needs
+slice-reshare-prefix-bytes-of : tie.Need-slice-reshare-prefix-bytes-of
+slice-reshare-prefix-bytes-of c = search needs
 
-slice-aggregate-sum-up : tie.Need-slice-aggregate-sum-up
-slice-aggregate-sum-up c = simp length-take (omega arith)
+slice-aggregate-bytes-of : tie.Need-slice-aggregate-bytes-of
+slice-aggregate-bytes-of c = simp length-take (omega arith)
 
-sum-up-requires : tie.Need-sum-up-requires
-sum-up-requires c κs = search needs
+bytes-of-requires : tie.Need-bytes-of-requires
+bytes-of-requires c κs = simp length-take (omega arith)
 
 slice-write-part : tie.Need-slice-write-part
 slice-write-part c = search needs
@@ -45,7 +45,7 @@ returns : tie.Need-returns
 returns c =
     let index = c .before .before .before .before in
     let zeros = cleared index in
-    seal-made _ _ _ (start index .pre .0) (start index .pre .1) (zeros .clear .ensures) (index .put-two .ensures) _ (c .sum-up .ensures)
+    seal-made _ _ _ (start index .pre .0) (start index .pre .1) (zeros .clear .ensures) (index .put-two .ensures) _ (c .bytes-of .ensures)
 
 pub seal-spec : {M : Type 1} → statement M
 seal-spec =
@@ -53,9 +53,9 @@ seal-spec =
     (tie.spec
     clear-requires
     put-two-requires
-    slice-reshare-prefix-sum-up
-    slice-aggregate-sum-up
-    sum-up-requires
+    slice-reshare-prefix-bytes-of
+    slice-aggregate-bytes-of
+    bytes-of-requires
     slice-write-part
     add-part
     slice-write-part-2

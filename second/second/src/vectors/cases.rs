@@ -53,6 +53,8 @@ impl Cases {
         cases.no_cards();
         cases.writing();
         cases.building();
+        // Last, so that the vectors before these stay as they are.
+        cases.large_sums();
         cases.record
     }
 

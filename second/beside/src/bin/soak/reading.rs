@@ -60,7 +60,8 @@ impl Soak {
         const LAST: usize = 65_535;
         let mut card = Draft::sound(random, Kind::Span, 4, 5).lay_out();
         card.resize((LAST + 4) * BLOCK, 0);
-        put_index(&mut card, LAST, LAST as u16);
+        // Block 65,535 is 255 up to its check, its index too: without remainders no sums are larger.
+        card[LAST * BLOCK..][..BLOCK].fill(255);
         put_right(&mut card, LAST);
         // Block 65,537 carries the low bytes of its index, and block 65,538 a wrong check.
         put_index(&mut card, LAST + 2, 1);

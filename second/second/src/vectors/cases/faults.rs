@@ -172,6 +172,27 @@ impl Cases {
         }
     }
 
+    /// Blocks full of a large byte, of which 255 has the largest sums that there are without remainders: with a right check, and with a
+    /// wrong one.
+    pub(super) fn large_sums(&mut self) {
+        for byte in [255, 254, 253, 128] {
+            let mut card = vec![byte; BLOCK];
+            put_right(&mut card, 0);
+            self.refused(&card, 3, 0);
+            put_index(&mut card, 0, 0);
+            put_right(&mut card, 0);
+            self.refused(&card, 4, 0);
+            for check in [CHECK_A, CHECK_B] {
+                let right = card[check];
+                for wrong in [right ^ 1, right ^ 0x80, 255] {
+                    card[check] = wrong;
+                    self.refused(&card, 2, 0);
+                }
+                card[check] = right;
+            }
+        }
+    }
+
     /// Indices that do not hold, in each block.
     pub(super) fn indices(&mut self) {
         for kind in KINDS {

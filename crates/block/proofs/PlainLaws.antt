@@ -1,0 +1,106 @@
+-- The laws of the plain sums: their remainders may be taken at the end, and no sum of a block passes its bound, which is reached.
+-- Assumes nothing.
+use mathlib.Core.Path.{_≡_, refl, sym, ap}
+use mathlib.Core.List.{List, [], _∷_, _++_, foldl}
+use Prim.Native.Nat.{ℕ, zero, suc, _+_, _*_, _%_, _≤_, _<_}
+use native.Mathlib.Omega.{arith}
+use mir.Syntax.{w32}
+use mir.Val.{Fits}
+use native.Mathlib.Numerals.{add-one}
+use lib.ListN.{length, getD, take, replicate}
+use lib.Seq.{take-suc}
+use Rattle.block.specs.declared.check.Sums.{Sums}
+use Rattle.block.specs.Bytes.{AreBytes}
+use Rattle.block.specs.Check.{modulus, stepOf, sumsOf, checkBytes, checkAt}
+use Rattle.block.specs.Plain.{plainStep, plainOf, mostA, mostB}
+
+-- ---- the remainders may be taken at the end
+
+-- each sum's remainder
+abbrev reduced : Sums → Sums
+reduced s = record { a = s .a % modulus; b = s .b % modulus }
+
+late : (x y : ℕ) → (x % modulus + y) % modulus ≡ (x + y) % modulus
+late x y = omega arith
+
+both-late : (x y : ℕ) → (x % modulus + y % modulus) % modulus ≡ (x + y) % modulus
+both-late x y = omega arith
+
+step-reduced : (s : Sums) (x : ℕ) → stepOf (reduced s) x ≡ reduced (plainStep s x)
+step-reduced s x =
+    let first = late (s .a) x in
+    rw first (ap (λ (b : ℕ). record { a = (s .a + x) % modulus; b = b }) (both-late (s .b) (s .a + x)))
+
+fold-reduced : (s : Sums) (xs : List ℕ) → foldl stepOf (reduced s) xs ≡ reduced (foldl plainStep s xs)
+fold-reduced s [] = refl
+fold-reduced s (x ∷ xs) = rw (step-reduced s x) (fold-reduced (plainStep s x) xs)
+
+pub sums-reduced : (xs : List ℕ) → sumsOf xs ≡ reduced (plainOf xs)
+unfolding sumsOf plainOf
+sums-reduced xs = fold-reduced (record { a = 0; b = 0 }) xs
+
+-- the check bytes by the plain sums
+pub check-reduced : (xs : List ℕ) (s : Sums) → s ≡ plainOf xs → record { first = s .a % modulus; second = s .b % modulus } ≡ checkBytes xs
+unfolding checkBytes
+check-reduced xs s e = rw e (ap (λ (t : Sums). record { first = t .a; second = t .b }) (sym (sums-reduced xs)))
+
+-- ---- one byte more
+
+fold-more : (s : Sums) (xs : List ℕ) (x : ℕ) → foldl plainStep s (xs ++ (x ∷ [])) ≡ plainStep (foldl plainStep s xs) x
+fold-more s [] x = refl
+fold-more s (y ∷ ys) x = fold-more (plainStep s y) ys x
+
+pub plain-more : (l : List ℕ) (i : ℕ) → i < length l → plainOf (take (i + 1) l) ≡ plainStep (plainOf (take i l)) (getD l i 0)
+unfolding plainOf
+plain-more l i h = rw (add-one, take-suc l i 0 h) (fold-more (record { a = 0; b = 0 }) (take i l) (getD l i 0))
+
+-- ---- no sum of a block passes its bound
+
+-- 1 + 2 + … + n
+abbrev upTo : ℕ → ℕ
+upTo zero = 0
+upTo (suc n) = upTo n + suc n
+
+up-to-rises : (i n : ℕ) → i ≤ n → upTo i ≤ upTo n
+up-to-rises zero n h = omega arith
+up-to-rises (suc i) zero h = absurd (omega arith)
+up-to-rises (suc i) (suc n) h = let g = up-to-rises i n (omega arith) in omega arith
+
+up-to-all : 255 * upTo checkAt ≡ mostB
+up-to-all = refl
+
+-- the sums after i bytes are at most those of i bytes of 255
+record Few (i : ℕ) (s : Sums) : Type 0 where
+  few-a : s .a ≤ 255 * i
+  few-b : s .b ≤ 255 * upTo i
+
+few-next : (i : ℕ) (s : Sums) (x : ℕ) → x < 256 → Few i s → Few (i + 1) (plainStep s x)
+few-next i s x h f =
+    let next : i + 1 ≡ suc i = omega arith in
+    rw next (record { few-a = omega (arith, f .few-a); few-b = omega (arith, f .few-a, f .few-b) })
+
+-- of bytes that go on from the sums after i others
+few-all : (i : ℕ) (s : Sums) (xs : List ℕ) → AreBytes xs → Few i s → Few (i + length xs) (foldl plainStep s xs)
+few-all i s [] bytes f = let none : i + 0 ≡ i = omega arith in rw none f
+few-all i s (x ∷ xs) bytes f =
+    let one : i + suc (length xs) ≡ i + 1 + length xs = omega arith in
+    rw one (few-all (i + 1) (plainStep s x) xs (λ j. bytes (suc j)) (few-next i s x (bytes 0) f))
+
+-- "The largest plain b is 33,227,775": of at most 510 bytes none is larger,
+pub plain-most : (xs : List ℕ) → AreBytes xs → length xs ≤ checkAt → (plainOf xs .a ≤ mostA) × (plainOf xs .b ≤ mostB)
+unfolding plainOf
+plain-most xs bytes h =
+    let none : Few 0 (record { a = 0; b = 0 }) = record { few-a = omega arith; few-b = omega arith } in
+    let few = few-all 0 (record { a = 0; b = 0 }) xs bytes none in
+    (omega (arith, few .few-a), omega (arith, few .few-b, up-to-rises (0 + length xs) checkAt (omega arith), up-to-all))
+
+-- 510 bytes of 255 reach it,
+pub plain-reached : plainOf (replicate checkAt 255) ≡ record { a = mostA; b = mostB }
+unfolding plainOf
+plain-reached = refl
+
+-- and `u32` holds it, and so each sum on the way
+pub plain-fits : (xs : List ℕ) → AreBytes xs → length xs ≤ checkAt → Fits w32 (plainOf xs .a) × Fits w32 (plainOf xs .b)
+plain-fits xs bytes h =
+    let most = plain-most xs bytes h in
+    (record { fits = omega (arith, most .0) }, record { fits = omega (arith, most .1) })
