@@ -2,7 +2,7 @@
 # make run        proves and builds the programs, and runs `build` on a sample card; CARD=FILE for another card
 # make test       passes all tests: the same that the gate runs
 # make install    puts the programs, their manual pages and the C header below PREFIX, by default /usr/local; DESTDIR goes before it
-# make bench      times the compiled library beside the second implementation
+# make bench      times the compiled library beside the second implementation and plain C
 # make soak       compares them on COUNT random calls, by default 10000000; SEED=N for other calls
 # make vectors    writes the stored vectors and calls anew from the second implementation
 # make samples    lays the sample cards, lists and records out anew from their tables

@@ -40,9 +40,10 @@ struct sums {
     uint8_t a, b;
 };
 
-/* The largest b before its remainder is 255 times all numbers from 1 to 510,
- * which is 33,227,775, so that 32 bits hold both. The loop takes six bytes a
- * turn, 85 times: some processors slow down where a turn is very short. */
+/* The largest b before its remainder is 255 times the sum of the numbers from
+ * 1 to 510, which is 33,227,775, so that 32 bits hold both. The loop takes six
+ * bytes a turn, 85 times: some processors slow down where a turn is very
+ * short. */
 static struct sums sums_of(const uint8_t *block)
 {
     uint32_t a = 0, b = 0;

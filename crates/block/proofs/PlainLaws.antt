@@ -12,13 +12,9 @@ use lib.Seq.{take-suc}
 use Rattle.block.specs.declared.check.Sums.{Sums}
 use Rattle.block.specs.Bytes.{AreBytes}
 use Rattle.block.specs.Check.{modulus, stepOf, sumsOf, checkBytes, checkAt}
-use Rattle.block.specs.Plain.{plainStep, plainOf, mostA, mostB}
+use Rattle.block.specs.Plain.{plainStep, plainOf, reduced, mostA, mostB}
 
 -- ---- the remainders may be taken at the end
-
--- each sum's remainder
-abbrev reduced : Sums → Sums
-reduced s = record { a = s .a % modulus; b = s .b % modulus }
 
 late : (x y : ℕ) → (x % modulus + y) % modulus ≡ (x + y) % modulus
 late x y = omega arith
@@ -70,29 +66,29 @@ up-to-all : 255 * upTo checkAt ≡ mostB
 up-to-all = refl
 
 -- the sums after i bytes are at most those of i bytes of 255
-record Few (i : ℕ) (s : Sums) : Type 0 where
-  few-a : s .a ≤ 255 * i
-  few-b : s .b ≤ 255 * upTo i
+record Within (i : ℕ) (s : Sums) : Type 0 where
+  a-within : s .a ≤ 255 * i
+  b-within : s .b ≤ 255 * upTo i
 
-few-next : (i : ℕ) (s : Sums) (x : ℕ) → x < 256 → Few i s → Few (i + 1) (plainStep s x)
-few-next i s x h f =
+within-next : (i : ℕ) (s : Sums) (x : ℕ) → x < 256 → Within i s → Within (i + 1) (plainStep s x)
+within-next i s x h f =
     let next : i + 1 ≡ suc i = omega arith in
-    rw next (record { few-a = omega (arith, f .few-a); few-b = omega (arith, f .few-a, f .few-b) })
+    rw next (record { a-within = omega (arith, f .a-within); b-within = omega (arith, f .a-within, f .b-within) })
 
 -- of bytes that go on from the sums after i others
-few-all : (i : ℕ) (s : Sums) (xs : List ℕ) → AreBytes xs → Few i s → Few (i + length xs) (foldl plainStep s xs)
-few-all i s [] bytes f = let none : i + 0 ≡ i = omega arith in rw none f
-few-all i s (x ∷ xs) bytes f =
+within-all : (i : ℕ) (s : Sums) (xs : List ℕ) → AreBytes xs → Within i s → Within (i + length xs) (foldl plainStep s xs)
+within-all i s [] bytes f = let none : i + 0 ≡ i = omega arith in rw none f
+within-all i s (x ∷ xs) bytes f =
     let one : i + suc (length xs) ≡ i + 1 + length xs = omega arith in
-    rw one (few-all (i + 1) (plainStep s x) xs (λ j. bytes (suc j)) (few-next i s x (bytes 0) f))
+    rw one (within-all (i + 1) (plainStep s x) xs (λ j. bytes (suc j)) (within-next i s x (bytes 0) f))
 
 -- "The largest plain b is 33,227,775": of at most 510 bytes none is larger,
 pub plain-most : (xs : List ℕ) → AreBytes xs → length xs ≤ checkAt → (plainOf xs .a ≤ mostA) × (plainOf xs .b ≤ mostB)
 unfolding plainOf
 plain-most xs bytes h =
-    let none : Few 0 (record { a = 0; b = 0 }) = record { few-a = omega arith; few-b = omega arith } in
-    let few = few-all 0 (record { a = 0; b = 0 }) xs bytes none in
-    (omega (arith, few .few-a), omega (arith, few .few-b, up-to-rises (0 + length xs) checkAt (omega arith), up-to-all))
+    let none : Within 0 (record { a = 0; b = 0 }) = record { a-within = omega arith; b-within = omega arith } in
+    let all = within-all 0 (record { a = 0; b = 0 }) xs bytes none in
+    (omega (arith, all .a-within), omega (arith, all .b-within, up-to-rises (0 + length xs) checkAt (omega arith), up-to-all))
 
 -- 510 bytes of 255 reach it,
 pub plain-reached : plainOf (replicate checkAt 255) ≡ record { a = mostA; b = mostB }

@@ -1,4 +1,4 @@
--- The scope's worked examples of the check, from the definitions. Assumes nothing.
+-- The scope's worked examples of the check, and some more, from the definitions. Assumes nothing.
 use mathlib.Core.Path.{_≡_, refl}
 use mathlib.Core.List.{List, [], _∷_, _++_}
 use Prim.Native.Nat.{ℕ}

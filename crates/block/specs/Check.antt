@@ -1,4 +1,4 @@
--- The check of a block (01, "The card, block by block"): "byte 510 holds a, byte 511 holds b".
+-- The check of a block (01, "The card, block by block").
 --   stepOf s x       == the sums s with one byte x more
 --   sumsOf xs        == the sums of the bytes xs
 --   checkBytes xs    == the two check bytes of the bytes xs

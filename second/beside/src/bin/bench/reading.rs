@@ -2,8 +2,9 @@
 
 use std::hint::black_box;
 
-use beside::answers::{Held, WriteAnswer};
+use beside::answers::Held;
 use beside::plain::card as plain;
+use beside::writers::{written_by, Writer};
 use beside::{firmware, independent};
 use second::block;
 use second::cards::{Draft, Random};
@@ -183,19 +184,4 @@ fn write(sample: &Sample, beside: Beside, other: fn(&Lists, &mut [u8])) -> Opera
         },
         move || other(black_box(lists), black_box(&mut for_other)),
     )
-}
-
-/// A call that writes the card of a kind and l whose entries stand in three lists.
-type Writer = fn(usize, usize, &[u32], &[u16], &[u16], &mut [u8]) -> WriteAnswer;
-
-/// What such a call answers for these lists.
-fn written_by(write: Writer, lists: &Lists, out: &mut [u8]) -> WriteAnswer {
-    let Lists {
-        kind,
-        l,
-        words,
-        ones,
-        twos,
-    } = lists;
-    write(*kind, *l, words, ones, twos, out)
 }

@@ -10,6 +10,7 @@ use second::profile::Kind;
 use super::{admit, companion, write};
 use crate::answers::Held;
 use crate::independent;
+use crate::writers::written_by;
 
 /// What every byte of an output holds before the call.
 const BEFORE: u8 = 165;
@@ -32,16 +33,9 @@ fn hold_companion(card: &[u8], k: usize) -> usize {
 
 /// Holds what C writes to `second`, byte for byte and beyond the room, and gives the number that came.
 fn hold_write(lists: &Lists, room: usize) -> usize {
-    let Lists {
-        kind,
-        l,
-        words,
-        ones,
-        twos,
-    } = lists;
     let [mut by_c, mut by_second] = [BEFORE; 2].map(|byte| vec![byte; room + GUARD]);
-    let c = write(*kind, *l, words, ones, twos, &mut by_c[..room]);
-    let second = independent::write(*kind, *l, words, ones, twos, &mut by_second[..room]);
+    let c = written_by(write, lists, &mut by_c[..room]);
+    let second = written_by(independent::write, lists, &mut by_second[..room]);
     assert_eq!((c, by_c), (second, by_second), "room {room}, {lists:?}");
     second.number
 }

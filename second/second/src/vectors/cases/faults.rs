@@ -172,8 +172,8 @@ impl Cases {
         }
     }
 
-    /// Blocks full of a large byte, of which 255 has the largest sums that there are without remainders: with a right check, and with a
-    /// wrong one.
+    /// Blocks full of a large byte, with a right check and with a wrong one: without remainders
+    /// no sums are larger than those of 255.
     pub(super) fn large_sums(&mut self) {
         for byte in [255, 254, 253, 128] {
             let mut card = vec![byte; BLOCK];
