@@ -1,7 +1,7 @@
 -- The laws of the plain sums: their remainders may be taken at the end, and no sum of a block passes its bound, which is reached.
 -- Assumes nothing.
 use mathlib.Core.Path.{_≡_, refl, sym, ap}
-use mathlib.Core.List.{List, [], _∷_, _++_, foldl}
+use mathlib.Core.List.{List, [], _∷_, foldl, foldl-append}
 use Prim.Native.Nat.{ℕ, zero, suc, _+_, _*_, _%_, _≤_, _<_}
 use native.Mathlib.Omega.{arith}
 use mir.Syntax.{w32}
@@ -42,13 +42,9 @@ check-reduced xs s e = rw e (ap (λ (t : Sums). record { first = t .a; second = 
 
 -- ---- one byte more
 
-fold-more : (s : Sums) (xs : List ℕ) (x : ℕ) → foldl plainStep s (xs ++ (x ∷ [])) ≡ plainStep (foldl plainStep s xs) x
-fold-more s [] x = refl
-fold-more s (y ∷ ys) x = fold-more (plainStep s y) ys x
-
 pub plain-more : (l : List ℕ) (i : ℕ) → i < length l → plainOf (take (i + 1) l) ≡ plainStep (plainOf (take i l)) (getD l i 0)
 unfolding plainOf
-plain-more l i h = rw (add-one, take-suc l i 0 h) (fold-more (record { a = 0; b = 0 }) (take i l) (getD l i 0))
+plain-more l i h = rw (add-one, take-suc l i 0 h) (foldl-append plainStep (record { a = 0; b = 0 }) (take i l) (getD l i 0 ∷ []))
 
 -- ---- no sum of a block passes its bound
 

@@ -47,7 +47,7 @@ fn sum_up(bytes: &[u8]) -> Sums
     s
 }
 
-// The check bytes of the bytes before them: each remainder is taken once.
+// The check bytes of the bytes before them.
 pub fn bytes_of(bytes: &[u8]) -> CheckBytes
     requires { ⌜ length (now bytes) ≤ checkAt ⌝ }
     ensures { λ r. ⌜ r ≡ checkBytes (now (bytes .entry)) ⌝ }

@@ -1,7 +1,7 @@
 -- Laws of the first line of a record: its mark, and its name, whose end is looked for in as many bytes as a name may have and one more. Assumes
 -- nothing.
 use mathlib.Core.Path.{_≡_, refl, sym, ap, _∙_}
-use mathlib.Core.Bool.{Bool, true, false, _&&_}
+use mathlib.Core.Bool.{Bool, true, false, _&&_, and-true}
 use mathlib.Core.List.{List, []}
 use Prim.Native.Nat.{ℕ, _+_, _-_, _≤_, _<_}
 use native.Mathlib.Omega.{arith}
@@ -13,7 +13,7 @@ use Rattle.answers.proofs.Tests.{both}
 use Rattle.fasta.specs.Record.{newline, mark, leading, isName}
 use Rattle.fasta.specs.Reading.{noBreak, nameLength, nameIn, isHeaded, bodyIn}
 use Rattle.fasta.specs.Inner.{nameReach}
-use Rattle.fasta.proofs.LeadingLaws.{and-true, leading-few, leading-next, leading-take, leading-take-few}
+use Rattle.fasta.proofs.LeadingLaws.{leading-few, leading-next, leading-take, leading-take-few}
 use Rattle.fasta.proofs.TestLaws.{name-long, name-holds}
 use Rattle.fasta.proofs.BodyLaws.{break-is}
 
@@ -96,7 +96,7 @@ module _ (r : List ℕ) where
             let stops : noBreak (getD after (nameLength r) 0) ≡ false = leading-next noBreak after (omega (arith, some, same)) in
             let there : getD r (nameLength r + 1) 0 ≡ newline =
             ap (λ (k : ℕ). getD r k 0) (omega arith) ∙ sym (getD-drop 1 r (nameLength r) 0) ∙ break-is (getD after (nameLength r) 0) stops in
-            rw (same, mark-holds, eq-eqb (getD r (nameLength r + 1) 0) newline there) (and-true (isName (nameIn r)))
+            rw (same, mark-holds, eq-eqb (getD r (nameLength r + 1) 0) newline there) (sym (and-true (isName (nameIn r))))
 
         far : nameReach ≤ n → isName (take n after) ≡ isHeaded r
         far g =

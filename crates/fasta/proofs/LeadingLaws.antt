@@ -1,6 +1,6 @@
 -- Laws of how many stand before the first that is not ok, and of whether all are. Assumes nothing.
 use mathlib.Core.Path.{_≡_, refl, sym, ap, _∙_}
-use mathlib.Core.Bool.{Bool, true, false, _&&_, cond}
+use mathlib.Core.Bool.{Bool, true, false, _&&_, cond, and-assoc}
 use mathlib.Core.List.{List, [], _∷_, _++_}
 use Prim.Native.Nat.{ℕ, zero, suc, _+_, _-_, _≤_, _<_}
 use native.Mathlib.Numerals.{add-one}
@@ -9,15 +9,8 @@ use lib.ListN.{length, getD, take, drop, length-drop, drop-of-length-le, take-ap
 use lib.Seq.{drop-cons, drop-drop, take-all}
 use lib.Dec.{eqb}
 use borrow.Author.Tests.{eqb-true, eqb-false, eq-eqb, ne-eqb}
+use Rattle.block.proofs.Fold.{all-turn, all-end}
 use Rattle.fasta.specs.Record.{leading, areAll}
-
-and-assoc : (t u v : Bool) → ((t && u) && v) ≡ (t && (u && v))
-and-assoc true u v = refl
-and-assoc false u v = refl
-
-pub and-true : (t : Bool) → t ≡ (t && true)
-and-true true = refl
-and-true false = refl
 
 module _ (ok : ℕ → Bool) where
   leading-on : (x : ℕ) (xs : List ℕ) → ok x ≡ true → leading ok (x ∷ xs) ≡ suc (leading ok xs)
@@ -170,12 +163,7 @@ module _ {ok : ℕ → Bool} {xs : List ℕ} where
   module _ {t : Bool} {i : ℕ} (seen : Seen ok xs t i) where
     pub seen-turn : i < length xs → {u : Bool} → u ≡ ok (getD xs i 0) → Seen ok xs (t && u) (i + 1)
     seen-turn h {u} e =
-        let here : areAll ok (drop i xs) ≡ (u && areAll ok (drop (i + 1) xs)) =
-        rw (add-one i, drop-cons xs i 0 h, e) (all-first ok (getD xs i 0) (drop (suc i) xs)) in
-        record {
-          within = omega arith;
-          so-far = and-assoc t u (areAll ok (drop (i + 1) xs)) ∙ ap (λ (v : Bool). t && v) (sym here) ∙ seen .so-far;
-        }
+        record { within = omega arith; so-far = all-turn ok (areAll ok) (all-none ok) (all-first ok) xs i t (areAll ok xs) (seen .so-far) h u e }
 
     -- a part at once, and all that is left
     pub seen-part : {end : ℕ} → i ≤ end → end ≤ length xs → {u : Bool} → u ≡ areAll ok (take (end - i) (drop i xs)) → Seen ok xs (t && u) end
@@ -199,6 +187,4 @@ module _ {ok : ℕ → Bool} {xs : List ℕ} where
         ap (λ (v : Bool). t && v) (e ∙ ap (areAll ok) rest) ∙ seen .so-far
 
     pub seen-all : length xs ≤ i → t ≡ areAll ok xs
-    seen-all h =
-        let none : areAll ok (drop i xs) ≡ true = ap (areAll ok) (drop-of-length-le xs h) ∙ all-none ok in
-        and-true t ∙ ap (λ (v : Bool). t && v) (sym none) ∙ seen .so-far
+    seen-all h = all-end ok (areAll ok) (all-none ok) (all-first ok) xs i t (areAll ok xs) (seen .so-far) h

@@ -1,17 +1,16 @@
 -- The laws of a card's layout that this crate's proofs and the crates above cite. No contract cites this file. Assumes nothing.
-use mathlib.Core.Path.{_≡_, sym, ap, _∙_}
+use mathlib.Core.Path.{_≡_, refl}
 use mathlib.Core.Logic.{_⊎_, inl, inr}
-use mathlib.Core.Bool.{Bool, true, false, _&&_, and-assoc, and-true}
+use mathlib.Core.Bool.{Bool, true, false, _&&_}
 use mathlib.Core.List.{List}
 use Prim.Native.Nat.{ℕ, _+_, _*_, _/_, _≤_, _<_}
-use native.Mathlib.Numerals.{add-one}
 use native.Mathlib.Omega.{arith}
-use lib.ListN.{length, getD, take, drop, drop-of-length-le}
-use lib.Seq.{drop-cons}
+use lib.ListN.{length, getD, take, drop}
 use lib.Dec.{leb, eqb}
 use borrow.Author.Tests.{eq-eqb, ne-eqb, eqb-true, leb-true}
 use Rattle.answers.proofs.Tests.{both, either}
 use Rattle.block.specs.Block.{blockBytes, indexAt}
+use Rattle.block.proofs.Fold.{all-turn, all-end}
 use Rattle.entries.specs.declared.Slot.{Slot}
 use Rattle.entries.specs.Fault.{pair, span}
 use Rattle.entries.specs.Entry.{entryOf}
@@ -22,12 +21,10 @@ use Rattle.layout.specs.Layout.{toldBy, isZeros, headSpare, perBlock, si
 
 module _ (l : List ℕ) (i : ℕ) (all whole : Bool) (so-far : (all && isZeros (drop i l)) ≡ whole) where
   pub zeros-turn : i < length l → ((all && eqb (getD l i 0) 0) && isZeros (drop (i + 1) l)) ≡ whole
-  zeros-turn h =
-      let next : isZeros (drop i l) ≡ (eqb (getD l i 0) 0 && isZeros (drop (i + 1) l)) = rw (add-one, drop-cons l i 0 h) in
-      and-assoc all (eqb (getD l i 0) 0) (isZeros (drop (i + 1) l)) ∙ ap (λ (t : Bool). all && t) (sym next) ∙ so-far
+  zeros-turn h = all-turn (λ (x : ℕ). eqb x 0) isZeros refl (λ (x : ℕ) (xs : List ℕ). refl) l i all whole so-far h (eqb (getD l i 0) 0) refl
 
   pub zeros-end : length l ≤ i → all ≡ whole
-  zeros-end h = sym (and-true all) ∙ ap (λ (xs : List ℕ). all && isZeros xs) (sym (drop-of-length-le l h)) ∙ so-far
+  zeros-end h = all-end (λ (x : ℕ). eqb x 0) isZeros refl (λ (x : ℕ) (xs : List ℕ). refl) l i all whole so-far h
 
 -- ---- spare bytes of block 0
 
