@@ -45,7 +45,7 @@ use Rattle.builds.proofs.Determined.{says-one}
 use Rattle.lines.specs.Lines.{programBudget, lettersRoom, verdictLine}
 use Rattle.converting.specs.declared.Lengths.{Lengths}
 use Rattle.converting.specs.Converting.{Streams, onOutput, onErrors, byAnswer, Converted}
-use Rattle.converting.specs.Fasta.{recordRoom, fastaBy, ToFasta}
+use Rattle.converting.specs.Fasta.{recordRoom, NotSole, fastaBy, ToFasta}
 
 -- ---- the letters of a build
 
@@ -124,11 +124,7 @@ module _ (limit : ℕ) (name s : List ℕ) (n : ℕ) where
 
 -- ---- another verdict
 
--- it is not sole
-abbrev pub Other : Outcome → Type 0
-Other o = (s : List ℕ) (n : ℕ) → o ≡ settled (sole s) n → ⊥
-
-no-record : (limit : ℕ) (name : List ℕ) (o : Outcome) → Other o → fastaBy limit name (given o) ≡ onErrors (verdictLine o)
+no-record : (limit : ℕ) (name : List ℕ) (o : Outcome) → NotSole o → fastaBy limit name (given o) ≡ onErrors (verdictLine o)
 unfolding fastaBy
 no-record limit name (settled (sole s) n) other = absurd (other s n refl)
 no-record limit name (settled (several s) n) other = refl
@@ -165,7 +161,7 @@ module _ {limit : ℕ} {card name out err out′ err′ : List ℕ} {r : Lengths
     pub sole-unnamed : isName name ≡ false → Converted (onErrors (refusalLine Name 0)) out err r out′ err′
     sole-unnamed other = by-said says (unnamed limit name s n other)
 
-  pub not-sole : {o : Outcome} → Says limit card programBudget (lettersRoom limit) (given o) → Other o
+  pub not-sole : {o : Outcome} → Says limit card programBudget (lettersRoom limit) (given o) → NotSole o
       → Converted (onErrors (verdictLine o)) out err r out′ err′
   not-sole {o} says other = by-said says (no-record limit name o other)
 

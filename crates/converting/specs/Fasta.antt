@@ -2,10 +2,12 @@
 -- (DECISIONS, D73): of a card with more builds than one, with none, or that is not settled, nothing is written on standard output, and the
 -- verdict's line on standard error. `limit` is the most entries that a card may have.
 --   recordRoom limit         == the most bytes of a record: the longest name, and the letters of the longest sequence in lines
+--   NotSole o                == the outcome o is another than a sole build
 --   fastaBy limit name a     == what is written, where a is what is said of the card
 --   ToFasta limit card name out err r out′ err′
 --                            == what is written for the card stands in two buffers that were `out` and `err`, as `Converted` says
 -- Assumes nothing.
+use mathlib.Core.Path.{_≡_}
 use mathlib.Core.List.{List, map}
 use Prim.Native.Nat.{ℕ, _+_}
 use Rattle.answers.specs.Answer.{Answer, given, refused}
@@ -22,6 +24,9 @@ use Rattle.converting.specs.Converting.{Streams, onErrors, byAnswer, Con
 -- "`>`, a name […], a newline, then lines of 60 letters […], each ended by a newline"
 abbrev pub recordRoom : ℕ → ℕ
 recordRoom limit = mostName + 2 + (lettersRoom limit + linesFor (lettersRoom limit))
+
+abbrev pub NotSole : Outcome → Type 0
+NotSole o = (s : List ℕ) (n : ℕ) → o ≡ settled (sole s) n → ⊥
 
 -- where the card is sole the record, or by which refusal there is none; the card is tested before the name
 unfoldable pub fastaBy : ℕ → List ℕ → Answer Outcome → Streams

@@ -51,7 +51,7 @@ abbrev further : List Table
 further = nearTable ∷ p1Twice ∷ []
 
 -- the verdicts that they state are true
-pub further-told : Told further
+pub further-told : Told (nearTable ∷ p1Twice ∷ [])
 unfolding verdictOf sequences overlaps
 further-told = tables-told further refl
 
@@ -178,7 +178,7 @@ unfolding entryOf placesOf
 spanned-told t lists.first = crowded-none 2 0 (storedIn crowdedTable) crowded-narrow (omega (arith, crowded-over))
 spanned-told t (later h) = rest-told t h
 
-pub spanned-settle : Settles spanned
+pub spanned-settle : Settles (crowdedTable ∷ wideTable ∷ sevenTable ∷ [])
 spanned-settle = tables-settle spanned spanned-as-spans spanned-walks spanned-told
 
 -- ---- with 7 spans over a place, and a build: 8 is the least number that leaves none
