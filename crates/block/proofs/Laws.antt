@@ -7,7 +7,7 @@ use Prim.Native.Nat.{ℕ, zero, suc, _+_, _*_, _-_, _≤_, _<_}
 use native.Mathlib.Nat.{add-sub-cancel-left}
 use native.Mathlib.Omega.{arith}
 use lib.ListN.{length, getD, take, drop, length-take, length-drop, take-append-drop, drop-of-length-le}
-use lib.Seq.{take-at, drop-at, drop-drop, getD-drop}
+use lib.Seq.{take-at, take-take, drop-at, drop-drop, getD-drop}
 use lib.Dec.{eqb}
 use borrow.Author.Tests.{le-leb, lt-leb, leb-true, eq-eqb, ne-eqb}
 use Rattle.answers.specs.Numbers.{Check, Index, Absent}
@@ -58,6 +58,11 @@ module _ (b : List ℕ) (k : ℕ) where
 pub block-in-place : (p b q : List ℕ) (k : ℕ) → length p ≡ blockBytes * k → length b ≡ blockBytes → blockAt (p ++ (b ++ q)) k ≡ b
 unfolding blockAt
 block-in-place p b q k hp hb = rw (drop-at p (b ++ q) (blockBytes * k) hp, take-at b q blockBytes hb)
+
+-- block 0 is of the first bytes of a card
+pub block-front : (n : ℕ) (card : List ℕ) → blockBytes ≤ n → blockAt (take n card) 0 ≡ blockAt card 0
+unfolding blockAt
+block-front n card h = take-take blockBytes n card h
 
 -- the first of some bytes are bytes
 pub take-bytes : (n : ℕ) (xs : List ℕ) → AreBytes xs → AreBytes (take n xs)
@@ -142,17 +147,6 @@ module _ (card : List ℕ) (k : ℕ) where
   unfolding fetchOf
   fetch-refused e = ap partOf (first-refused-any (fetchTests card k) sound (blockAt card k) e)
 
-  -- by the part's length
-  pub fetch-none : length (fetchOf card k) ≡ 0 → first (fetchTests card k) sound ≡ given sound → ⊥
-  fetch-none z e = omega (arith, fetch-length e)
-
-  pub fetch-some : (length (fetchOf card k) ≡ 0 → ⊥) → first (fetchTests card k) sound ≡ given sound
-  fetch-some s = go (first (fetchTests card k) sound) refl
-    where
-      go : (r : Answer Sound) → first (fetchTests card k) sound ≡ r → first (fetchTests card k) sound ≡ given sound
-      go (given sound) q = q
-      go (refused n p) q = absurd (s (ap length (fetch-refused q)))
-
   -- where the part stands: the block's own place, or the card's where there is none
   pub place-holds : (p : ℕ × ℕ) → first (fetchTests card k) sound ≡ given sound → placeOf p card k ≡ startOf p (blockBytes * k)
   unfolding placeOf
@@ -166,7 +160,7 @@ module _ (card : List ℕ) (k : ℕ) where
 
   -- "the part is empty exactly when the companion refuses"
   pub empty-refused : (fetchOf card k ≡ []) ↔ (first (fetchTests card k) sound ≡ given sound → ⊥)
-  empty-refused = (λ e. fetch-none (ap length e), λ h. go h (first (fetchTests card k) sound) refl)
+  empty-refused = (λ e h. omega (arith, ap length e, fetch-length h), λ h. go h (first (fetchTests card k) sound) refl)
     where
       go : (first (fetchTests card k) sound ≡ given sound → ⊥) → (r : Answer Sound) → first (fetchTests card k) sound ≡ r
           → fetchOf card k ≡ []
@@ -176,23 +170,37 @@ module _ (card : List ℕ) (k : ℕ) where
   -- ---- a part that was fetched, by its length
 
   module _ {part : List ℕ} (e : part ≡ fetchOf card k) where
-    pub part-none : length part ≡ 0 → length (fetchOf card k) ≡ 0
-    part-none z = ap length (sym e) ∙ z
+    -- where it is empty the companion refuses
+    pub part-none : length part ≡ 0 → first (fetchTests card k) sound ≡ given sound → ⊥
+    part-none z h = omega (arith, ap length e, fetch-length h)
 
     module _ (some : length part ≡ 0 → ⊥) where
-      pub part-some : length (fetchOf card k) ≡ 0 → ⊥
-      part-some z = some (ap length e ∙ z)
+      -- where it is not the companion holds
+      pub part-holds : first (fetchTests card k) sound ≡ given sound
+      part-holds = go (first (fetchTests card k) sound) refl
+        where
+          go : (r : Answer Sound) → first (fetchTests card k) sound ≡ r → first (fetchTests card k) sound ≡ given sound
+          go (given sound) q = q
+          go (refused n p) q = absurd (some (ap length (e ∙ fetch-refused q)))
+
+      -- and it is the block, all 512 bytes of it
+      pub part-block : part ≡ blockAt card k
+      part-block = e ∙ fetch-holds part-holds
 
       pub part-length : length part ≡ blockBytes
-      part-length = ap length e ∙ fetch-length (fetch-some part-some)
+      part-length = ap length e ∙ fetch-length part-holds
 
   -- ---- the tests of a block that is all there, before other tests `more`
 
   module _ (there : blockBytes * k + blockBytes ≤ length card) (more : List Test) where
     -- where the companion refuses, its refusal is the answer
-    pub block-refused : {A : Type 0} (a : A) {n p : ℕ} → first (fetchTests card k) sound ≡ refused n p
-        → first (blockTests (blockAt card k) k ++ more) a ≡ refused n p
-    block-refused a e = first-refused more a (blockTests (blockAt card k) k) (sym (present sound there) ∙ e)
+    pub block-refused : (first (fetchTests card k) sound ≡ given sound → ⊥)
+        → first (blockTests (blockAt card k) k ++ more) sound ≡ first (fetchTests card k) sound
+    block-refused refuses = go (first (fetchTests card k) sound) refl
+      where
+        go : (r : Answer Sound) → first (fetchTests card k) sound ≡ r → first (blockTests (blockAt card k) k ++ more) sound ≡ r
+        go (given sound) q = absurd (refuses q)
+        go (refused n p) q = first-refused more sound (blockTests (blockAt card k) k) (sym (present sound there) ∙ q)
 
     -- where it holds the later tests answer
     pub block-held : {A : Type 0} (a : A) → first (fetchTests card k) sound ≡ given sound

@@ -7,12 +7,13 @@ use Prim.Native.Nat.{ℕ, _+_, _-_, _<_}
 use native.Mathlib.Nat.{eq-zero-or-pos}
 use native.Mathlib.Omega.{arith}
 use lib.ListN.{length, take}
-use lib.Seq.{take-take, take-all, length-take-le}
+use lib.Seq.{take-all, length-take-le}
 use borrow.Author.Tests.{le-leb}
 use Rattle.answers.specs.Numbers.{Size}
 use Rattle.answers.specs.Answer.{Answer, given, refused, Sound, sound, first}
 use Rattle.answers.proofs.Laws.{first-pass}
 use Rattle.block.specs.Block.{blockBytes, blockAt, blockTests}
+use Rattle.block.proofs.Laws.{block-front}
 use Rattle.layout.specs.Layout.{sizeOf}
 use Rattle.card.specs.Reading.{fieldTests, headTests, readingOrder}
 use Rattle.card.proofs.ReadingLaws.{head-has, reading-stops, size-wrong}
@@ -59,8 +60,7 @@ module _ (limit : ℕ) (card : List ℕ) where
     front-long = omega (arith, length-take-le (sizeOf limit + 1) card (omega arith))
 
     same-block : blockAt front 0 ≡ blockAt card 0
-    unfolding blockAt
-    same-block = take-take blockBytes (sizeOf limit + 1) card (omega arith)
+    same-block = block-front (sizeOf limit + 1) card (omega arith)
 
     same-head : first (headTests limit front) sound ≡ first (headTests limit card) sound
     same-head =

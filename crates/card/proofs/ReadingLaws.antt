@@ -70,9 +70,10 @@ module _ (limit : ℕ) (card : List ℕ) where
   too-short h = first-fail _ _ _ _ _ (lt-leb _ _ h)
 
   module _ (there : blockBytes ≤ length card) where
-    pub head-refused : {n p : ℕ} → first (fetchTests card 0) sound ≡ refused n p → first (headTests limit card) sound ≡ refused n p
+    pub head-refused : (first (fetchTests card 0) sound ≡ given sound → ⊥)
+        → first (headTests limit card) sound ≡ first (fetchTests card 0) sound
     unfolding headTests
-    head-refused e = first-pass _ _ _ _ _ (le-leb _ _ there) ∙ block-refused card 0 (omega arith) _ sound e
+    head-refused refuses = first-pass _ _ _ _ _ (le-leb _ _ there) ∙ block-refused card 0 (omega arith) _ refuses
 
     pub head-held : first (fetchTests card 0) sound ≡ given sound
         → first (fieldTests limit (blockAt card 0)) sound ≡ first (headTests limit card) sound
@@ -90,9 +91,10 @@ module _ {b block : List ℕ} {n count : ℕ} (eb : b ≡ block) (en : n ≡ cou
   spare-same = cc
 
 module _ (f : Format) (card : List ℕ) (k : ℕ) (there : blockBytes * k + blockBytes ≤ length card) where
-  pub later-refused : {n p : ℕ} → first (fetchTests card k) sound ≡ refused n p → first (laterTests f card k) sound ≡ refused n p
+  pub later-refused : (first (fetchTests card k) sound ≡ given sound → ⊥)
+      → first (laterTests f card k) sound ≡ first (fetchTests card k) sound
   unfolding laterTests
-  later-refused e = block-refused card k there _ sound e
+  later-refused refuses = block-refused card k there _ refuses
 
   module _ (held : first (fetchTests card k) sound ≡ given sound) where
     pub slot-refused : {n p : ℕ} → first (slotsTests f (blockAt card k) (entriesBefore k) (entriesIn (f .m) k)) sound ≡ refused n p

@@ -63,10 +63,10 @@ fn head_holds(card: &[u8]) -> Held
             place: 0,
         });
     }
-    if let Held::Refused(r) = block::companion(card, 0) {
-        return Held::Refused(r);
+    let head = block::fetch(card, 0);
+    if head.len() == 0 {
+        return block::companion(card, 0);
     }
-    let head = block::part(card, 0);
     fields_hold(head, layout::format_of(head))
 }
 
@@ -91,10 +91,10 @@ fn later_holds(card: &[u8], f: Format, k: usize) -> Held
     requires { ⌜ (1 ≤ k) × (k ≤ entryBlocks (f .m)) × (blockBytes * k + blockBytes ≤ length (now card)) ⌝ }
     ensures { λ r. ⌜ saysHeld r ≡ first (laterTests f (now (card .entry)) k) sound ⌝ }
 {
-    if let Held::Refused(r) = block::companion(card, k) {
-        return Held::Refused(r);
+    let part = block::fetch(card, k);
+    if part.len() == 0 {
+        return block::companion(card, k);
     }
-    let part = block::part(card, k);
     let n = layout::entries_in(f.m, k);
     if let Held::Refused(r) = slots_hold(part, f, layout::entries_before(k), n) {
         return Held::Refused(r);

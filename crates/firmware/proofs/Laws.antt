@@ -5,7 +5,7 @@ use Prim.Native.Nat.{ℕ, _*_, _+_, _≤_}
 use lib.ListN.{length}
 use Rattle.answers.specs.Answer.{Answer, given, refused, Sound, sound, first}
 use Rattle.block.specs.Block.{blockBytes, fetchTests, fetchOf}
-use Rattle.block.proofs.Laws.{holds-there, fetch-none, fetch-some, part-none, part-some, part-length}
+use Rattle.block.proofs.Laws.{holds-there, part-none, part-holds, part-length}
 use Rattle.entries.specs.declared.Entry.{Entry}
 use Rattle.card.specs.Fetching.{more}
 use Rattle.sequence.specs.Many.{Power}
@@ -67,20 +67,18 @@ module _ (card : List ℕ) (k : ℕ) {part : List ℕ} (e : part ≡ fetchOf car
   empty-flat z = go (first (fetchTests card k) sound) refl
     where
       go : (r : Answer Sound) → first (fetchTests card k) sound ≡ r → _≡_ {A = PartAnswer} (record { at = 0; length = 0 }) (partAnswer k r)
-      go (given sound) q = absurd (fetch-none card k (part-none card k e z) q)
+      go (given sound) q = absurd (part-none card k e z q)
       go (refused n p) q = refl
 
   module _ (some : length part ≡ 0 → ⊥) where
-    holds : first (fetchTests card k) sound ≡ given sound
-    holds = fetch-some card k (part-some card k e some)
-
     -- a part that is not empty is of the card
     pub part-there : blockBytes * k + blockBytes ≤ length card
-    part-there = holds-there card k sound sound holds
+    part-there = holds-there card k sound sound (part-holds card k e some)
 
     pub part-flat :
         _≡_ {A = PartAnswer} (record { at = blockBytes * k; length = length part }) (partAnswer k (first (fetchTests card k) sound))
-    part-flat = (λ i. record { at = blockBytes * k; length = part-length card k e some i }) ∙ ap (partAnswer k) (sym holds)
+    part-flat =
+        (λ i. record { at = blockBytes * k; length = part-length card k e some i }) ∙ ap (partAnswer k) (sym (part-holds card k e some))
 
 -- ---- build
 

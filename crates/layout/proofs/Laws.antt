@@ -15,7 +15,7 @@ use Rattle.entries.specs.declared.Slot.{Slot}
 use Rattle.entries.specs.Fault.{pair, span}
 use Rattle.entries.specs.Entry.{entryOf}
 use Rattle.layout.specs.Bounds.{isWithin, isKind}
-use Rattle.layout.specs.Layout.{toldBy, isZeros, headSpare, perBlock, sizeOf, slotOf, entryAt}
+use Rattle.layout.specs.Layout.{formOf, toldBy, isZeros, headSpare, perBlock, sizeOf, slotOf, entryAt}
 
 -- ---- zeros, looked at from the front: `all` is whether those before i are, and `whole` what is asked
 
@@ -25,6 +25,13 @@ module _ (l : List ℕ) (i : ℕ) (all whole : Bool) (so-far : (all && isZeros (
 
   pub zeros-end : length l ≤ i → all ≡ whole
   zeros-end h = all-end (λ (x : ℕ). eqb x 0) isZeros refl (λ (x : ℕ) (xs : List ℕ). refl) l i all whole so-far h
+
+-- ---- the form
+
+-- it is the first byte of block 0
+pub form-is : (b : List ℕ) → formOf b ≡ getD b 0 0
+unfolding formOf
+form-is b = refl
 
 -- ---- spare bytes of block 0
 

@@ -6,6 +6,7 @@ use mathlib.Core.Bool.{true}
 use Rattle.answers.proofs.Tests.{failed, passed}
 use Rattle.entries.specs.Fault.{leastLength, mostLength}
 use Rattle.layout.specs.Layout.{formOf, formatOf}
+use Rattle.layout.proofs.Laws.{form-is}
 use Rattle.layout.specs.Bounds.{theForm, leastEntries, mostEntries, isKind, isWithin}
 use Rattle.card.proofs.ReadingLaws.{form-wrong, kind-wrong, length-wrong, count-wrong, not-spare, fields-sound}
 use Rattle.card.proofs.reading.fields_hold.Statement.{statement}
@@ -21,8 +22,7 @@ module _ (c : tie.Else1) where
   told = start .pre .1
 
   form-ok : formOf (start .args .head .now) ≡ theForm
-  unfolding formOf
-  form-ok = c .if1 .left
+  form-ok = form-is _ ∙ c .if1 .left
 
 module _ (c : tie.Else2) where
   abbrev past-form : tie.Else1
@@ -51,8 +51,7 @@ shared-slice-read-if1 : tie.Need-shared-slice-read-if1
 shared-slice-read-if1 c = search needs
 
 returns : tie.Need-returns
-unfolding formOf
-returns c = sym (form-wrong _ _ (c .if1 .taken))
+returns c = sym (form-wrong _ _ (λ e. c .if1 .taken (sym (form-is _) ∙ e)))
 
 is-kind-requires : tie.Need-is-kind-requires
 is-kind-requires c κs = search needs

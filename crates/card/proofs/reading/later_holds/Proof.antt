@@ -1,6 +1,7 @@
--- `card::reading::later_holds` meets its contract: the companion's refusal first, then the slots, then the spare bytes. Assumes nothing.
+-- `card::reading::later_holds` meets its contract: the companion's refusal where no part is fetched, then the slots, then the spare bytes.
+-- Assumes nothing.
 use borrow.Author.Needs.{needs}
-use mathlib.Core.Path.{_≡_, sym, ap, _∙_}
+use mathlib.Core.Path.{_≡_, sym, _∙_}
 use mathlib.Core.List.{List}
 use Prim.Native.Nat.{ℕ}
 use native.Mathlib.Omega.{arith}
@@ -9,7 +10,7 @@ use denote.Ref.{now}
 use Rattle.answers.specs.Answer.{given, Test, first, sound, saysHeld}
 use Rattle.answers.proofs.Laws.{told-holds, told-refused}
 use Rattle.block.specs.Block.{blockBytes, blockAt, fetchTests}
-use Rattle.block.proofs.Laws.{block-length}
+use Rattle.block.proofs.Laws.{part-none, part-holds, part-block, part-length}
 use Rattle.layout.specs.Layout.{entriesBefore, entriesIn, slotsSpare}
 use Rattle.card.specs.Reading.{slotsTests}
 use Rattle.card.proofs.ReadingLaws.{slots-same, spare-same, later-refused, slot-refused, later-sound, later-not-spare}
@@ -28,34 +29,32 @@ module _ (s : tie.Start) where
   abbrev slots : List Test
   slots = slotsTests (s .args .f) block (entriesBefore (s .args .k)) count
 
+fetch-requires : tie.Need-fetch-requires
+fetch-requires c κs = search needs
+
 companion-requires : tie.Need-companion-requires
 companion-requires c κs = search needs
 
-enum-known-r : tie.Need-enum-known-r
-enum-known-r c = search needs
-
 returns : tie.Need-returns
 returns c =
-    let asked = c .before .before .before in
-    sym (later-refused _ _ _ (asked .before .before .pre .1 .2) (told-refused (asked .companion .ensures) (c .before .r .given .1)))
+    let asked = c .before .before in
+    let refuses = part-none _ _ (asked .fetch .ensures .0) (c .before .if1 .taken) in
+    c .companion .ensures ∙ sym (later-refused _ _ _ (asked .before .before .pre .1 .2) refuses)
 
-enum-told : tie.Need-enum-told
-enum-told c = search needs
+-- ---- where a part is fetched: it is the block, which holds
 
-part-requires : tie.Need-part-requires
-part-requires c κs = search needs
-
--- ---- once the block holds and its part is there
-
-module _ (c : tie.After-part) where
+module _ (c : tie.Else1) where
   abbrev start : tie.Start
-  start = c .before .before .before .before .before
+  start = c .before .before .before
 
   held : first (fetchTests (start .args .card .now) (start .args .k)) sound ≡ given sound
-  held = told-holds (c .before .before .before .companion .ensures) (c .before .enum-told .given .1)
+  held = part-holds _ _ (c .before .fetch .ensures .0) (c .if1 .left)
 
-  whole : length (now (c .part .result)) ≡ blockBytes
-  whole = ap length (c .part .ensures .0) ∙ block-length _ _ (start .pre .1 .2)
+  is-block : now (c .before .fetch .result) ≡ block start
+  is-block = part-block _ _ (c .before .fetch .ensures .0) (c .if1 .left)
+
+  whole : length (now (c .before .fetch .result)) ≡ blockBytes
+  whole = part-length _ _ (c .before .fetch .ensures .0) (c .if1 .left)
 
 entries-in-requires : tie.Need-entries-in-requires
 entries-in-requires c κs = search needs
@@ -69,25 +68,25 @@ slots-hold-requires c κs = (whole (c .before .before), search needs, omega arit
 -- ---- once the slots have answered: of the block, and of the entries that it has
 
 module _ (c : tie.After-slots-hold) where
-  abbrev part : tie.After-part
+  abbrev part : tie.Else1
   part = c .before .before .before
 
   said : saysHeld (c .slots-hold .result) ≡ first (slots (start part)) sound
   said =
       c .slots-hold .ensures
-      ∙ slots-same (part .part .ensures .0) (c .before .before .entries-in .ensures) _ (c .before .entries-before .ensures)
+      ∙ slots-same (is-block part) (c .before .before .entries-in .ensures) _ (c .before .entries-before .ensures)
 
-enum-known-r-2 : tie.Need-enum-known-r-2
-enum-known-r-2 c = search needs
+enum-known-r : tie.Need-enum-known-r
+enum-known-r c = search needs
 
 returns-2 : tie.Need-returns-2
 returns-2 c =
     let asked = c .before .before .before in
-    let refused = told-refused (said asked) (c .before .r2 .given .1) in
+    let refused = told-refused (said asked) (c .before .r .given .1) in
     sym (slot-refused _ _ _ (start (part asked) .pre .1 .2) (held (part asked)) refused)
 
-enum-told-2 : tie.Need-enum-told-2
-enum-told-2 c = search needs
+enum-told : tie.Need-enum-told
+enum-told c = search needs
 
 slots-spare-requires : tie.Need-slots-spare-requires
 slots-spare-requires c κs = let asked = c .before .before in (whole (part asked), omega arith)
@@ -99,38 +98,36 @@ module _ (c : tie.After-slots-spare) where
   asked = c .before .before .before
 
   spare : c .slots-spare .result ≡ slotsSpare (block (start (part asked))) (count (start (part asked)))
-  spare = c .slots-spare .ensures ∙ spare-same (part asked .part .ensures .0) (asked .before .before .entries-in .ensures)
+  spare = c .slots-spare .ensures ∙ spare-same (is-block (part asked)) (asked .before .before .entries-in .ensures)
 
   sound-slots : first (slots (start (part asked))) sound ≡ given sound
-  sound-slots = told-holds (said asked) (c .before .enum-told2 .given .1)
+  sound-slots = told-holds (said asked) (c .before .enum-told .given .1)
 
 returns-3 : tie.Need-returns-3
 returns-3 c =
     let seen = c .before in
     let at = part (asked seen) in
-    sym (later-sound _ _ _ (start at .pre .1 .2) (held at) (sound-slots seen) (sym (spare seen) ∙ c .if1 .taken))
+    sym (later-sound _ _ _ (start at .pre .1 .2) (held at) (sound-slots seen) (sym (spare seen) ∙ c .if2 .taken))
 
 returns-4 : tie.Need-returns-4
 returns-4 c =
     let seen = c .before in
     let at = part (asked seen) in
-    sym (later-not-spare _ _ _ (start at .pre .1 .2) (held at) (sound-slots seen) (sym (spare seen) ∙ c .if1 .left))
+    sym (later-not-spare _ _ _ (start at .pre .1 .2) (held at) (sound-slots seen) (sym (spare seen) ∙ c .if2 .left))
 
 pub later-holds-spec : {M : Type 1} → statement M
 later-holds-spec =
     tie.close
     (tie.spec
+    fetch-requires
     companion-requires
-    enum-known-r
     returns
-    enum-told
-    part-requires
     entries-in-requires
     entries-before-requires
     slots-hold-requires
-    enum-known-r-2
+    enum-known-r
     returns-2
-    enum-told-2
+    enum-told
     slots-spare-requires
     returns-3
     returns-4)
