@@ -12,7 +12,8 @@ use Rattle.answers.proofs.Tests.{both}
 use Rattle.entries.specs.Slot.{slotFrom, entriesIn}
 use Rattle.entries.specs.Fault.{pair, span, leastLength, mostLength}
 use Rattle.layout.specs.Bounds.{leastEntries, mostEntries}
-use Rattle.lists.proofs.Laws.{Accepted, lists-accepted}
+use Rattle.lists.specs.Lists.{Accepted}
+use Rattle.lists.proofs.Laws.{lists-accepted}
 use Rattle.lists.proofs.KindLaws.{SpanLists, PairLists, lists-span, lists-pair}
 use Rattle.sequence.proofs.ListLaws.{in-row}
 use Rattle.spans.specs.Settling as spans

@@ -1,7 +1,7 @@
 -- A reading head lists a card: from head 0 the steps give the entries in order and then the end, exactly m of them, and nothing else can be
 -- listed. Assumes nothing.
 use mathlib.Core.Path.{_≡_, refl, ap, _∙_}
-use mathlib.Core.List.{List, [], _∷_}
+use mathlib.Core.List.{List}
 use Prim.Native.Nat.{ℕ, zero, suc, _+_}
 use native.Mathlib.Numerals.{add-one}
 use native.Mathlib.Omega.{arith}
@@ -12,14 +12,8 @@ use Rattle.answers.proofs.RowLaws.{length-row, row-none, row-first}
 use Rattle.entries.specs.declared.Format.{Format}
 use Rattle.entries.specs.declared.Entry.{Entry}
 use Rattle.layout.specs.Layout.{entryAt}
-use Rattle.card.specs.Fetching.{admission, more, end, stepping}
+use Rattle.card.specs.Fetching.{admission, Lists, ends, goes}
 use Rattle.card.proofs.FetchingLaws.{Admits, admission-admits, step-more, step-end}
-
--- from the head `at` the steps give these entries, one after the other, and then the end
-pub data Lists (limit : ℕ) (card : List ℕ) : ℕ → List Entry → Type 0 where
-  ends : {at : ℕ} → stepping limit card at ≡ given end → Lists limit card at []
-  goes : {at next : ℕ} {e : Entry} {es : List Entry} → stepping limit card at ≡ given (more e next) → Lists limit card next es
-      → Lists limit card at (e ∷ es)
 
 module _ (limit : ℕ) (card : List ℕ) where
   module _ {f : Format} (has : Admits limit card f) where

@@ -1,5 +1,6 @@
--- What admitting a card, fetching an entry and a step of the reading head answer (01, "What can come back" and "The card, block by block").
--- Each enum of an answer has a definition that gives its cases as the scope's numbers and values. Assumes nothing.
+-- What admitting a card, fetching an entry and a step of the reading head answer (01, "What can come back" and "The card, block by block"),
+-- and what the steps list. Each enum of an answer has a definition that gives its cases as the scope's numbers and values. Assumes nothing.
+use mathlib.Core.Path.{_≡_}
 use Prim.Native.Nat.{ℕ, _+_}
 use mathlib.Core.Bool.{cond}
 use mathlib.Core.List.{List, [], _∷_, _++_}
@@ -50,3 +51,9 @@ abbrev pub saysStepped : Stepped → Answer Next
 saysStepped (More e h) = given (more e (h .at))
 saysStepped End = given end
 saysStepped (NotStepped r) = refused (r .number) (r .place)
+
+-- from the head `at` the steps give these entries, one after the other, and then the end
+pub data Lists (limit : ℕ) (card : List ℕ) : ℕ → List Entry → Type 0 where
+  ends : {at : ℕ} → stepping limit card at ≡ given end → Lists limit card at []
+  goes : {at next : ℕ} {e : Entry} {es : List Entry} → stepping limit card at ≡ given (more e next) → Lists limit card next es
+      → Lists limit card at (e ∷ es)

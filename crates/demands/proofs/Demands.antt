@@ -19,7 +19,8 @@ use Rattle.card.specs.Listing.{listing, Listed}
 use Rattle.writer.specs.declared.Written.{Written}
 use Rattle.writer.specs.declared.Written.the-variants.{Refused as NotWritten}
 use Rattle.writer.specs.Writing.{writing, saysWritten, Writes}
-use Rattle.writer.proofs.RoundTrip.{GivesBack, read-back, written-again}
+use Rattle.writer.specs.GivesBack.{GivesBack}
+use Rattle.writer.proofs.RoundTrip.{read-back, written-again}
 use Rattle.sequence.specs.Verdict.{Before}
 use Rattle.spans.specs.Walk.{placements}
 use Rattle.builds.specs.declared.BuildAnswer.{BuildAnswer}

@@ -15,7 +15,7 @@ use Rattle.sequence.specs.Build.{lettersOf}
 use Rattle.layout.specs.Bounds.{leastEntries}
 use Rattle.layout.specs.Layout.{toldBy, entryAt}
 use Rattle.layout.proofs.Laws.{within-both}
-use Rattle.lists.proofs.Laws.{Accepted}
+use Rattle.lists.specs.Lists.{Accepted}
 use Rattle.writer.specs.declared.Written.{Written}
 use Rattle.writer.specs.Writing.{saysWritten, Writes}
 use Rattle.writer.proofs.WritingLaws.{wrote-accepted}

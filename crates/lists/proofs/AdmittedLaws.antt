@@ -14,8 +14,7 @@ use Rattle.layout.specs.Layout.{toldBy, sizeOf, slotOf}
 use Rattle.card.specs.Fetching.{admission}
 use Rattle.card.proofs.FetchingLaws.{admission-admits}
 use Rattle.card.proofs.SoundLaws.{Reads, holds-reads}
-use Rattle.lists.specs.Lists.{formatFor}
-use Rattle.lists.proofs.Laws.{Accepted}
+use Rattle.lists.specs.Lists.{formatFor, Accepted}
 
 module _ (limit : ℕ) (card : List ℕ) {f : Format} (admitted : admission limit card ≡ given f) where
   pub its-reads : Reads limit card

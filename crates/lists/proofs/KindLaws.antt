@@ -15,8 +15,8 @@ use Rattle.entries.specs.Fault.{leastLength, mostLength, pair, span, pairHolds,
 use Rattle.entries.proofs.Laws.{pair-holds, span-holds, sound-has}
 use Rattle.layout.specs.Bounds.{leastEntries}
 use Rattle.layout.proofs.Laws.{within-both}
-use Rattle.lists.specs.Lists.{formatFor, listsTests}
-use Rattle.lists.proofs.Laws.{Accepted, lists-accepted}
+use Rattle.lists.specs.Lists.{formatFor, listsTests, Accepted}
+use Rattle.lists.proofs.Laws.{lists-accepted}
 
 pub record KindLists (holds : ℕ → ℕ → ℕ → Bool) (limit l : ℕ) (words ones twos : List ℕ) : Type 0 where
   pub least : leastLength ≤ l

@@ -3,7 +3,7 @@
 use mathlib.Core.Path.{_≡_, sym, _∙_}
 use mathlib.Core.Bool.{true, false}
 use mathlib.Core.List.{List}
-use Prim.Native.Nat.{ℕ, _+_, _<_}
+use Prim.Native.Nat.{ℕ, _+_}
 use native.Mathlib.Omega.{arith}
 use lib.ListN.{length}
 use lib.Dec.{eqb}
@@ -18,7 +18,7 @@ use Rattle.entries.specs.Slot.{slotFrom}
 use Rattle.entries.specs.Fault.{leastLength, mostLength, entryTests}
 use Rattle.entries.proofs.Laws.{entry-only}
 use Rattle.layout.specs.Bounds.{leastEntries, isWithin, isKind}
-use Rattle.lists.specs.Lists.{formatFor, sameLength, listsTests}
+use Rattle.lists.specs.Lists.{formatFor, sameLength, listsTests, Accepted}
 
 -- ---- three lengths
 
@@ -68,15 +68,7 @@ module _ (limit kind l : ℕ) (words ones twos : List ℕ) where
             sym
             (first-pass _ _ _ _ _ kind-ok ∙ first-pass _ _ _ _ _ letters ∙ first-pass _ _ _ _ _ same ∙ first-pass _ _ _ _ _ h)
 
--- the lists that are accepted: a kind, l and m within their bounds, one length, and each entry sound
-pub record Accepted (limit kind l : ℕ) (words ones twos : List ℕ) : Type 0 where
-  pub a-kind : isKind kind ≡ true
-  pub letters : isWithin leastLength mostLength l ≡ true
-  pub as-ones : length words ≡ length ones
-  pub as-twos : length words ≡ length twos
-  pub count : isWithin leastEntries limit (length words) ≡ true
-  pub entries : (e : ℕ) → e < length words → first (entryTests (formatFor kind l words) e (slotFrom words ones twos e)) sound ≡ given sound
-
+-- lists that hold are accepted, and those that are accepted hold
 module _ {limit kind l : ℕ} {words ones twos : List ℕ} where
   pub lists-accepted : first (listsTests limit kind l words ones twos) sound ≡ given sound → Accepted limit kind l words ones twos
   unfolding listsTests

@@ -3,14 +3,17 @@
 --   formatFor kind l words                        == the format of a card of these words: it has as many entries as there are words
 --   sameLength words ones twos                    == the lists have one length
 --   listsTests limit kind l words ones twos       == the tests of the lists, in their order
+--   Accepted limit kind l words ones twos         == what the tests ask, each by itself: a kind, l and m within their bounds, lists of one
+--                                                    length, and each entry sound
 -- An entry's fault is the reader's own, `entryTests`. Assumes nothing.
-use Prim.Native.Nat.{ℕ}
-use mathlib.Core.Bool.{Bool, _&&_}
+use mathlib.Core.Path.{_≡_}
+use Prim.Native.Nat.{ℕ, _<_}
+use mathlib.Core.Bool.{Bool, true, _&&_}
 use mathlib.Core.List.{List, _∷_}
 use lib.ListN.{length}
 use lib.Dec.{eqb}
 use Rattle.answers.specs.Numbers.{Kind, Length, Lists, Count}
-use Rattle.answers.specs.Answer.{Test, test}
+use Rattle.answers.specs.Answer.{given, sound, Test, test, first}
 use Rattle.answers.specs.Row.{inTurn}
 use Rattle.entries.specs.declared.Format.{Format}
 use Rattle.entries.specs.Slot.{slotFrom}
@@ -32,3 +35,11 @@ listsTests limit kind l words ones twos =
     ∷ test (sameLength words ones twos) Lists 0
     ∷ test (isWithin leastEntries limit (length words)) Count 0
     ∷ inTurn (λ e. entryTests (formatFor kind l words) e (slotFrom words ones twos e)) 0 (length words)
+
+pub record Accepted (limit kind l : ℕ) (words ones twos : List ℕ) : Type 0 where
+  pub a-kind : isKind kind ≡ true
+  pub letters : isWithin leastLength mostLength l ≡ true
+  pub as-ones : length words ≡ length ones
+  pub as-twos : length words ≡ length twos
+  pub count : isWithin leastEntries limit (length words) ≡ true
+  pub entries : (e : ℕ) → e < length words → first (entryTests (formatFor kind l words) e (slotFrom words ones twos e)) sound ≡ given sound

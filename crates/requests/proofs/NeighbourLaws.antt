@@ -27,8 +27,7 @@ use Rattle.layout.specs.Layout.{toldBy, slotOf}
 use Rattle.layout.proofs.CardLaws.{card-slot}
 use Rattle.layout.proofs.LaidLaws.{card-told, card-laid}
 use Rattle.card.proofs.SoundLaws.{Reads}
-use Rattle.lists.specs.Lists.{formatFor}
-use Rattle.lists.proofs.Laws.{Accepted}
+use Rattle.lists.specs.Lists.{formatFor, Accepted}
 use Rattle.sequence.specs.Lists.{Paired}
 use Rattle.sequence.specs.Verdict.{Widens}
 use Rattle.sequence.proofs.FillingLaws.{lt-or-le, same-or-not}

@@ -18,8 +18,7 @@ use Rattle.layout.proofs.CardLaws.{card-slot}
 use Rattle.layout.proofs.LaidLaws.{card-told, card-laid}
 use Rattle.card.specs.Reading.{readingOrder}
 use Rattle.card.proofs.SoundLaws.{Reads, reads-holds}
-use Rattle.lists.specs.Lists.{formatFor}
-use Rattle.lists.proofs.Laws.{Accepted}
+use Rattle.lists.specs.Lists.{formatFor, Accepted}
 
 module _ (kind l : ℕ) (words ones twos : List ℕ) where
   abbrev format : Format

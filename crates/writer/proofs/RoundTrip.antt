@@ -7,6 +7,7 @@
 --   again-no-room       and room is all that it can lack
 -- Assumes nothing.
 use mathlib.Core.Path.{_≡_, refl, sym, ap, _∙_}
+use mathlib.Core.Bool.{true}
 use mathlib.Core.List.{List, _++_}
 use Prim.Native.Nat.{ℕ, _+_, _≤_, _<_}
 use native.Mathlib.Omega.{arith}
@@ -25,25 +26,19 @@ use Rattle.layout.specs.Card.{cardOf}
 use Rattle.layout.proofs.CardLaws.{length-card}
 use Rattle.layout.proofs.LaidLaws.{card-told}
 use Rattle.card.specs.declared.Admitted.{Admitted}
-use Rattle.card.specs.Fetching.{admission, saysAdmitted, entryFetch}
-use Rattle.card.specs.Listing.{Listed}
+use Rattle.card.specs.Fetching.{admission, saysAdmitted, entryFetch, Lists}
+use Rattle.card.specs.Listing.{hasRoom, Listed}
 use Rattle.card.proofs.FetchingLaws.{admission-given, admission-admits, entry-found}
-use Rattle.card.proofs.ListingLaws.{Fits, listed-given, listed-admitted, listed-words, listed-ones, listed-twos}
-use Rattle.card.proofs.Steps.{Lists, lists-all}
-use Rattle.lists.specs.Lists.{formatFor}
-use Rattle.lists.proofs.Laws.{Accepted}
+use Rattle.card.proofs.ListingLaws.{room-fits, listed-given, listed-admitted, listed-words, listed-ones, listed-twos}
+use Rattle.card.proofs.Steps.{lists-all}
+use Rattle.lists.specs.Lists.{formatFor, Accepted}
 use Rattle.lists.proofs.AdmittedLaws.{itsWords, itsOnes, itsTwos, length-its, admitted-size, its-accepted}
 use Rattle.writer.specs.declared.Written.{Written}
 use Rattle.writer.specs.Writing.{saysWritten, Writes}
+use Rattle.writer.specs.GivesBack.{GivesBack}
 use Rattle.writer.proofs.WritingLaws.{wrote-accepted, wrote-room, wrote-size, wrote-bytes, wrote-card, wrote-nothing}
 use Rattle.writer.proofs.ReadBackLaws.{accepted-order, written-entry-is, written-numbers}
 use Rattle.writer.proofs.AgainLaws.{again-card}
-
--- a card that gives back this kind, l and m, and each of these entries, by fetch and by the head
-pub record GivesBack (limit kind l : ℕ) (words ones twos card : List ℕ) : Type 0 where
-  pub admitted : admission limit card ≡ given (formatFor kind l words)
-  pub fetched : (e : ℕ) → e < length words → entryFetch limit card e ≡ given (entryOf kind (slotFrom words ones twos e))
-  pub stepped : Lists limit card 0 (row (λ e. entryOf kind (slotFrom words ones twos e)) 0 (length words))
 
 -- the card that the writer made, read
 module _ {limit kind l : ℕ} {words ones twos before after : List ℕ} {r : Written} {n : ℕ}
@@ -52,7 +47,7 @@ module _ {limit kind l : ℕ} {words ones twos before after : List ℕ} {r : Wri
   made = cardOf (formatFor kind l words) (slotFrom words ones twos)
 
   -- the card is the first n bytes of the output
-  pub made-is : take n after ≡ made
+  pub made-is : take n after ≡ cardOf (formatFor kind l words) (slotFrom words ones twos)
   made-is =
       ap (take n) (wrote-bytes did said)
       ∙ take-at made (drop (length made) before) n (length-card (formatFor kind l words) (slotFrom words ones twos) ∙ wrote-size did said)
@@ -78,14 +73,14 @@ module _ {limit kind l : ℕ} {words ones twos before after : List ℕ} {r : Wri
 
   -- admitted into lent lists that have room, it fills their first slots with the lists that were given
   pub read-into : {a b c a′ b′ c′ : List ℕ} {q : Admitted} → Listed limit (take n after) a b c q a′ b′ c′
-      → Fits (length words) (length a) (length b) (length c)
+      → hasRoom (length words) (length a) (length b) (length c) ≡ true
       → (saysAdmitted q ≡ given (formatFor kind l words))
       × (take (length words) a′ ≡ words) × (take (length words) b′ ≡ ones) × (take (length words) c′ ≡ twos)
   unfolding slotFrom
-  read-into listed fits =
+  read-into listed room =
       let has = wrote-accepted did said in
       let numbers = written-numbers kind l words ones twos in
-      let told = listed-given listed (read-back .admitted) fits in
+      let told = listed-given listed (read-back .admitted) (room-fits _ _ _ _ room) in
       let of-card : (numberOf : Slot → ℕ) → row (λ e. numberOf (slotOf (take n after) e)) 0 (length words)
       ≡ row (λ e. numberOf (slotOf made e)) 0 (length words) =
       λ numberOf. rw made-is in (

@@ -13,8 +13,8 @@ use Rattle.entries.specs.Slot.{slotFrom}
 use Rattle.layout.specs.Layout.{sizeOf}
 use Rattle.layout.specs.Card.{cardOf}
 use Rattle.layout.proofs.CardLaws.{length-card}
-use Rattle.lists.specs.Lists.{formatFor, listsTests}
-use Rattle.lists.proofs.Laws.{Accepted, lists-accepted, accepted-lists}
+use Rattle.lists.specs.Lists.{formatFor, listsTests, Accepted}
+use Rattle.lists.proofs.Laws.{lists-accepted, accepted-lists}
 use Rattle.writer.specs.declared.Written.{Written}
 use Rattle.writer.specs.declared.Written.the-variants.{Card, Refused}
 use Rattle.writer.specs.Writing.{writing, saysWritten, Writes}

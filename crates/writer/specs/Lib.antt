@@ -1,2 +1,3 @@
--- `Writing` is what the writer answers, and what it writes.
+-- `Writing` is what the writer answers, and what it writes; `GivesBack` is what a card that was written gives back.
 pub mod Writing
+pub mod GivesBack

@@ -9,7 +9,8 @@ use Rattle.answers.proofs.Laws.{told-holds, told-refused}
 use Rattle.entries.specs.Fault.{leastLength, mostLength}
 use Rattle.layout.specs.Bounds.{leastEntries, mostEntries}
 use Rattle.layout.proofs.Laws.{within-both, kind-below}
-use Rattle.lists.proofs.Laws.{Accepted, lists-accepted}
+use Rattle.lists.specs.Lists.{Accepted}
+use Rattle.lists.proofs.Laws.{lists-accepted}
 use Rattle.writer.proofs.WritingLaws.{lists-refused, no-room, card-written}
 use Rattle.writer.proofs.write.Statement.{statement}
 use Rattle.writer.proofs.write.Tie as tie
