@@ -1,4 +1,5 @@
-// The reading order of a card: every rule in turn, up to the first that is broken.
+// The reading order of a card: every rule in turn, up to the first that is broken. A block is asked for by `block::fetch`; an empty part
+// carries no number, and the companion has it.
 ghost use mathlib.Core.Path.{_≡_};
 ghost use Prim.Native.Nat.{_+_, _*_, _≤_};
 ghost use lib.ListN.{length};
