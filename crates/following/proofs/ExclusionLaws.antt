@@ -7,7 +7,7 @@ use Prim.Native.Nat.{ℕ, zero, suc, _+_, _-_, _*_, _<_, _≤_}
 use native.Mathlib.Omega.{arith}
 use native.Mathlib.Decide.{ℕ-discrete, decLt}
 use lib.Dec.{eqb}
-use lib.ListN.{length, getD, set, length-set}
+use lib.ListN.{length, getD, set, replicate, length-set}
 use lib.Seq.{getD-set-same, getD-set-other}
 use borrow.Author.Tests.{lt-ltb, le-ltb, eqb-true, eqb-false}
 use Rattle.pairs.specs.Arranged.{Pairs, Inside, Stands, Goes, Arranged}
@@ -107,6 +107,12 @@ unfolding unplaced
 unplaced-set m i r [] p h g = absurd (omega arith)
 unplaced-set m zero r (x ∷ xs) p h g = rw (lt-ltb r m g, le-ltb x m h) (omega arith)
 unplaced-set m (suc i) r (x ∷ xs) p h g = omega (arith, unplaced-set m i r xs (omega arith) h g)
+
+-- where nobody has a place
+pub unplaced-all : (m k : ℕ) → unplaced m (replicate k m) ≡ k
+unfolding unplaced
+unplaced-all m zero = refl
+unplaced-all m (suc k) = rw (le-ltb m m (omega arith)) (omega (arith, unplaced-all m k))
 
 -- a list after a store
 pub put-set : (l : List ℕ) {f r : ℕ} → f < length l → Put (of l) f r (of (set l f r))

@@ -1,16 +1,16 @@
 -- Laws of the whole build. No contract cites this file. Assumes nothing.
-use mathlib.Core.Path.{_≡_, refl, sym, ap, _∙_}
+use mathlib.Core.Path.{_≡_, sym, ap, _∙_}
 use mathlib.Core.Bool.{Bool, true, false, true≢false}
 use mathlib.Core.List.{List}
 use mathlib.Core.Logic.{by-cases}
-use Prim.Native.Nat.{ℕ, zero, suc, _<_}
+use Prim.Native.Nat.{ℕ, _<_}
 use native.Mathlib.Omega.{arith}
 use native.Mathlib.Decide.{decLt}
 use lib.ListN.{length, replicate, length-replicate, getD-replicate, List·getD-eq-default}
-use borrow.Author.Tests.{le-ltb}
 use Rattle.pairs.specs.Arranged.{Pairs, Inside}
 use Rattle.pairs.specs.Chosen.{Closed, Upto}
-use Rattle.following.specs.Following.{Trail, Card, Links, Ready, unplaced, of, pairsOf}
+use Rattle.following.specs.Following.{Trail, Card, Links, Ready, of, pairsOf}
+use Rattle.following.proofs.ExclusionLaws.{unplaced-all}
 use Rattle.pairs.specs.Chosen.{NoBuild}
 use Rattle.choosing.specs.Choosing.{ChoosesAll}
 use Rattle.forcing.specs.Forcing.{Root, Roots}
@@ -19,11 +19,6 @@ use Rattle.pairing.specs.Built.{Builds}
 use Rattle.pairs.proofs.Upto.{upto-none, found}
 
 -- ---- the start: no entry has a place
-
-unplaced-all : (m k : ℕ) → unplaced m (replicate k m) ≡ k
-unfolding unplaced
-unplaced-all m zero = refl
-unplaced-all m (suc k) = rw (le-ltb m m (omega arith)) (omega (arith, unplaced-all m k))
 
 none-placed : {m f : ℕ} → f < m → of (replicate m m) f ≡ m
 none-placed {m} {f} p = getD-replicate m f m 0 p
