@@ -9,6 +9,7 @@ use lib.Dec.{eqb}
 use lib.ListN.{length}
 use Rattle.sequence.specs.Lists.{keep}
 use Rattle.walk.specs.Steps.{tries}
+use Rattle.walk.proofs.TriedLaws.{tries-none, tries-skip, tries-take}
 use Rattle.layering.specs.Digits.{digit, picked, told}
 
 -- ---- a digit
@@ -46,10 +47,10 @@ module _ (ok leads : ℕ → Bool) (word : ℕ → ℕ) where
 
   -- those that are tried and lead on are picked
   pub told-picked : (c w : ℕ) (js : List ℕ) → picked (told ok leads word c w js) js ≡ keep leads (tries ok word w js)
-  unfolding told picked tries
-  told-picked c w [] = refl
+  unfolding told picked
+  told-picked c w [] = rw (tries-none ok word w)
   told-picked c w (j ∷ js) =
-      go (ok j && not (eqb (word j) w)) (told-picked (2 * c + digit (leads j)) (word j) js) (told-picked (2 * c) w js)
+      go (ok j && not (eqb (word j) w)) refl (told-picked (2 * c + digit (leads j)) (word j) js) (told-picked (2 * c) w js)
     where
       new : (x : ℕ) → x / 2 ^ length js ≡ 2 * c + digit (leads j) → picked x js ≡ keep leads (tries ok word (word j) js)
           → cond (eqb (x / 2 ^ length js % 2) 1) (j ∷ picked x js) (picked x js) ≡ keep leads (j ∷ tries ok word (word j) js)
@@ -59,10 +60,10 @@ module _ (ok leads : ℕ → Bool) (word : ℕ → ℕ) where
           → cond (eqb (x / 2 ^ length js % 2) 1) (j ∷ picked x js) (picked x js) ≡ keep leads (tries ok word w js)
       old x front more = let even : 2 * c % 2 ≡ 0 = omega arith in rw (front, even, more)
 
-      go : (t : Bool)
+      go : (t : Bool) → ok j && not (eqb (word j) w) ≡ t
           → picked (told ok leads word (2 * c + digit (leads j)) (word j) js) js ≡ keep leads (tries ok word (word j) js)
           → picked (told ok leads word (2 * c) w js) js ≡ keep leads (tries ok word w js)
           → picked (cond t (told ok leads word (2 * c + digit (leads j)) (word j) js) (told ok leads word (2 * c) w js)) (j ∷ js)
-          ≡ keep leads (cond t (j ∷ tries ok word (word j) js) (tries ok word w js))
-      go true e f = new _ (told-front (2 * c + digit (leads j)) (word j) js) e
-      go false e f = old _ (told-front (2 * c) w js) f
+          ≡ keep leads (tries ok word w (j ∷ js))
+      go true q e f = rw (tries-take ok word w j js q) (new _ (told-front (2 * c + digit (leads j)) (word j) js) e)
+      go false q e f = rw (tries-skip ok word w j js q) (old _ (told-front (2 * c) w js) f)

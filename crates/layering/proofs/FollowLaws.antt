@@ -2,7 +2,7 @@
 -- whatever follows is kept. Assumes nothing.
 use mathlib.Core.Path.{_≡_, refl, sym, ap, _∙_}
 use mathlib.Core.Logic.{_⊎_, inl, inr, ⊎-elim}
-use mathlib.Core.Bool.{Bool, true, false, cond, true≢false}
+use mathlib.Core.Bool.{Bool, true, false, true≢false}
 use mathlib.Core.List.{List, _∷_}
 use Prim.Native.Nat.{ℕ, suc, _+_, _-_, _*_, _≤_, _<_}
 use native.Mathlib.Omega.{arith}
@@ -18,6 +18,7 @@ use Rattle.memory.specs.Memory.{Below}
 use Rattle.tables.specs.Prepared.{part, listAt}
 use Rattle.walk.specs.Steps.{noWord, isLeft, tries}
 use Rattle.walk.proofs.StepLaws.{part-cons, part-none, part-lent, in-part, list-is}
+use Rattle.walk.proofs.TriedLaws.{tries-none, tries-skip, tries-take}
 use Rattle.layering.specs.States.{cellsOver, Laid, cellOf, duesIn, canStand, triedAt, isKept}
 use Rattle.layering.specs.Keeping.{ListThere, Keepable, Grows, isTried, Stepped, Followed}
 use Rattle.layering.proofs.StateLaws.{cell-is}
@@ -177,7 +178,6 @@ module _ {words twos starts slots marks table₀ : List ℕ} {i due k tried : �
 
   pub following-turn : {table′ : List ℕ} {r : ℕ} → k < end → Stepped words twos starts slots marks table table′ i k due tried r
       → Following words twos starts slots marks table₀ i due (k + 1) r table′
-  unfolding tries
   following-turn {table′} {r} h step = record {
     can = s .can;
     due-is = s .due-is;
@@ -195,19 +195,18 @@ module _ {words twos starts slots marks table₀ : List ℕ} {i due k tried : �
       one-more = part-cons slots k end h (s .can .here .ends)
 
       go : (j : ℕ) (t : Bool) → isTried words twos slots marks i k due tried ≡ t
-          → In j (cond (isTried words twos slots marks i k due tried) (own ∷ tries ok word (word own) (part slots (k + 1) end))
-          (tries ok word tried (part slots (k + 1) end)))
+          → In j (tries ok word tried (own ∷ part slots (k + 1) end))
           → In j (tries ok word r (part slots (k + 1) end)) ⊎ (isKept starts slots (set marks j 1) table′ (i + 1) ≡ true)
       go j true e q =
           let t = step .taken e in
-          ⊎-elim (λ x. inr (rw x (t .1))) (λ x. inl (rw (t .0) x)) (in-cons (rw e at q))
-      go j false e q = inl (rw (step .skipped e) (rw e at q))
+          ⊎-elim (λ x. inr (rw x (t .1))) (λ x. inl (rw (t .0) x)) (in-cons (rw (tries-take ok word tried own (part slots (k + 1) end) e) at q))
+      go j false e q = inl (rw (step .skipped e) (rw (tries-skip ok word tried own (part slots (k + 1) end) e) at q))
 
   pub following-all : end ≤ k → Followed words twos starts slots marks table₀ table i
-  unfolding tries
   following-all h = record {
     grows = s .grows;
-    kept = λ j m. ⊎-elim (λ q. absurd (not-in-nil (rw (part-none slots k end h (s .can .here .ends)) at q))) (λ q. q) (s .each j m);
+    kept = λ j m. ⊎-elim
+        (λ q. absurd (not-in-nil (rw (part-none slots k end h (s .can .here .ends), tries-none ok word tried) at q))) (λ q. q) (s .each j m);
   }
 
 -- the same with marks that are as they were

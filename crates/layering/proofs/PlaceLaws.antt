@@ -15,7 +15,7 @@ use borrow.Author.Tests.{eqb-true, eqb-false, eq-eqb, ne-eqb, leb-true, leb-fals
 use Rattle.answers.proofs.Tests.{both}
 use Rattle.entries.specs.declared.Slot.{Slot}
 use Rattle.sequence.specs.Lists.{In, first, later, Rising, keep, numbers}
-use Rattle.sequence.proofs.ListLaws.{in-cons, in-keep, keep-in}
+use Rattle.sequence.proofs.ListLaws.{in-keep, keep-in}
 use Rattle.sequence.proofs.TestLaws.{is-true}
 use Rattle.sequence.proofs.FillingLaws.{same-or-not}
 use Rattle.spans.proofs.Order.{firsts}
@@ -24,18 +24,19 @@ use Rattle.layers.proofs.Paths.{paths-table}
 use Rattle.memory.specs.Memory.{bitsOf}
 use Rattle.memory.proofs.KeyLaws.{bits-same}
 use Rattle.tables.specs.Prepared.{listAt}
-use Rattle.walk.specs.Steps.{noWord, isLeft, spanAt, left, agrees, able, tries}
+use Rattle.walk.specs.Steps.{noWord, isLeft, spanAt, left, agrees, able}
 use Rattle.walk.specs.Going.{Wants}
 use Rattle.walk.proofs.KeepLaws.{never}
 use Rattle.walk.proofs.SpanLaws.{spans-rise, words-below}
 use Rattle.walk.proofs.StepLaws.{agrees-by-word}
 use Rattle.walk.proofs.Candidates.{Place, Alone, candidates, opened-alone}
-use Rattle.walk.proofs.RunLaws.{tries-in, tries-firsts, left-set, left-marked}
+use Rattle.walk.proofs.TriedLaws.{tries-in, tries-ok, tries-firsts, tries-then}
+use Rattle.walk.proofs.RunLaws.{left-is, left-set, left-marked}
 use Rattle.walk.proofs.Turns.{rising-each, sooner-is}
 use Rattle.layering.specs.Digits.{picked, told}
 use Rattle.layering.specs.States.{Laid, Sides, duesIn, canStand, triedAt, after, below, agreeing, Chances}
 use Rattle.layering.proofs.DigitLaws.{told-picked}
-use Rattle.layering.proofs.TriedLaws.{tries-then, open-stand}
+use Rattle.layering.proofs.TriedLaws.{open-stand}
 
 -- ---- lists one after the other
 
@@ -57,17 +58,6 @@ flatMap-keep f g h (x ∷ l) none = go (g x) refl (h x) refl (flatMap-keep f g h
     go true e false q more = ap (λ r. r ++ flatMap f (keep g l)) (none x q) ∙ more
     go false e true q more = rw e more
     go false e false q more = more
-
-tries-ok : (ok : ℕ → Bool) (word : ℕ → ℕ) (w : ℕ) (js : List ℕ) {j : ℕ} → In j (tries ok word w js) → ok j ≡ true
-unfolding tries
-tries-ok ok word w (k ∷ js) {j} h = go (ok k) refl (not (eqb (word k) w)) (tries-ok ok word (word k) js) (tries-ok ok word w js) h
-  where
-    go : (a : Bool) → ok k ≡ a → (b : Bool) → (In j (tries ok word (word k) js) → ok j ≡ true) → (In j (tries ok word w js) → ok j ≡ true)
-        → In j (cond (a && b) (k ∷ tries ok word (word k) js) (tries ok word w js))
-        → ok j ≡ true
-    go true e true new old m = ⊎-elim (λ q. rw q e) new (in-cons m)
-    go true e false new old m = old m
-    go false e b new old m = old m
 
 -- ---- a place
 
@@ -95,7 +85,7 @@ module _ {l : ℕ} {words ones twos starts slots marks : List ℕ} {i : ℕ} (la
   place = record { prepared = laid .prepared; spans = spans-rise (laid .card); past = sides .past; inside = inside }
 
   pub tried-here : (j : ℕ) → In j tried → (j < length words) × (getD ones j 0 ≤ i) × (i ≤ last j)
-  tried-here j m = laid .prepared .here i j inside (tries-in can word last noWord table m)
+  tried-here j m = laid .prepared .here i j inside (tries-in can word noWord table m)
 
   tried-can : (j : ℕ) → In j tried → can j ≡ true
   tried-can j m = tries-ok can word noWord table m
@@ -109,7 +99,7 @@ module _ {l : ℕ} {words ones twos starts slots marks : List ℕ} {i : ℕ} (la
   tried-alone j m =
       let want = word j / 4 in
       let stands : In j (keep (λ k. can k && agrees i want (word k)) table) =
-      keep-in (λ k. can k && agrees i want (word k)) (tries-in can word last noWord table m)
+      keep-in (λ k. can k && agrees i want (word k)) (tries-in can word noWord table m)
       (rw (tried-can j m, agrees-by-word i want (word j) refl) tt) in
       opened-alone place j (in-keep (able words marks i want) _ (rw (open-stand words twos marks i want table) stands) .0)
 
@@ -148,9 +138,9 @@ module _ {l : ℕ} {words ones twos starts slots marks : List ℕ} {i : ℕ} (la
     -- what is completed from here is completed after those that are tried and whose word agrees
     place-paths : paths l (length words - i) i p (left words ones twos marks)
         ≡ flatMap (below l words ones twos marks i) (agreeing words i want tried)
-    unfolding left
     place-paths =
-        ap (λ n. paths l n i p (map entry (keep (isLeft marks) (numbers 0 (length words))))) one-less
+        ap (paths l (length words - i) i p) (left-is words ones twos marks)
+        ∙ ap (λ n. paths l n i p (map entry (keep (isLeft marks) (numbers 0 (length words))))) one-less
         ∙ paths-table entry (length words) (isLeft marks) l (length words - (i + 1)) i p
         (rising-each (sooner-is words ones twos) (laid .prepared .sorted i inside))
         (λ j h. laid .prepared .here i j inside h .0)

@@ -14,6 +14,7 @@ use Rattle.sequence.specs.Lists.{In, first, later}
 use Rattle.sequence.proofs.ListLaws.{in-keep}
 use Rattle.sequence.proofs.FillingLaws.{getD-in}
 use Rattle.layers.specs.Completed.{paths, isSome}
+use Rattle.layers.proofs.Paths.{paths-end}
 use Rattle.memory.specs.Memory.{bitsOf}
 use Rattle.tables.specs.Prepared.{listAt}
 use Rattle.walk.specs.Steps.{left, agrees}
@@ -189,10 +190,9 @@ module _ {l : ℕ} {words ones twos starts slots marks₀ table first₀ : List 
         one-more = ap (λ n. take n (set kept i (getD words e 0))) (add-one i) ∙ take-suc-set kept i (getD words e 0) (omega (arith, s .firsts))
 
     pub reading-all : length words ≤ i → WasRead l words ones twos marks₀ kept more
-    unfolding paths
     reading-all h =
         let none-left : length words - i ≡ 0 = omega arith in
         let all-read : take i kept ≡ kept = take-all i kept (omega (arith, s .firsts)) in
         let ends : map (λ ws. take i kept ++ ws) (paths l (length words - i) i (s .word-before) (left words ones twos marks)) ≡ kept ∷ [] =
-        rw none-left (ap (λ ws. ws ∷ []) (append-nil (take i kept) ∙ all-read)) in
+        rw (none-left, paths-end l i (s .word-before) (left words ones twos marks)) (ap (λ ws. ws ∷ []) (append-nil (take i kept) ∙ all-read)) in
         record { all = s .firsts; rest = s .rest; more-is = s .more-is; paths-are = s .whole ∙ ap (λ ps. ps ++ s .rest) ends }

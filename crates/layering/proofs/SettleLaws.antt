@@ -2,8 +2,8 @@
 -- place has none. Assumes nothing.
 use mathlib.Core.Path.{_≡_, refl, sym, ap, _∙_}
 use mathlib.Core.Logic.{⊎-elim}
-use mathlib.Core.Bool.{Bool, true, false, cond, true≢false}
-use mathlib.Core.List.{List, [], _∷_, _++_, map}
+use mathlib.Core.Bool.{Bool, true, false, true≢false}
+use mathlib.Core.List.{List, [], _∷_, _++_}
 use mathlib.Core.Option.{none}
 use Prim.Native.Nat.{ℕ, suc, _+_, _-_, _≤_, _<_}
 use native.Mathlib.Omega.{arith}
@@ -27,7 +27,7 @@ use Rattle.layers.specs.Narrow.{isOver, Narrow, crowd, mostOver}
 use Rattle.layers.specs.Settling.{settles}
 use Rattle.layers.specs.Completed.{paths, isSome}
 use Rattle.layers.proofs.Paths.{builds-paths, paths-tell}
-use Rattle.layers.proofs.Crowded.{crowded-none}
+use Rattle.layers.proofs.Crowded.{crowd-map, crowded-none}
 use Rattle.tables.specs.Prepared.{Prepared, listAt}
 use Rattle.walk.specs.Steps.{spanAt, left}
 use Rattle.walk.specs.Going.{at-first}
@@ -45,22 +45,11 @@ use Rattle.layering.proofs.SweepLaws.{half-told, begun-kept}
 
 -- ---- a crowded place
 
-length-keep-map : {A B : Type 0} (test : B → Bool) (f : A → B) (l : List A) → length (keep test (map f l)) ≡ length (keep (λ x. test (f x)) l)
-length-keep-map test f [] = refl
-length-keep-map test f (x ∷ l) = go (test (f x)) (length-keep-map test f l)
-  where
-    go : (t : Bool) → length (keep test (map f l)) ≡ length (keep (λ y. test (f y)) l)
-        → length (cond t (f x ∷ keep test (map f l)) (keep test (map f l)))
-        ≡ length (cond t (x ∷ keep (λ y. test (f y)) l) (keep (λ y. test (f y)) l))
-    go true e = ap suc e
-    go false e = e
-
 module _ {words ones twos starts slots : List ℕ} (prepared : Prepared words ones twos starts slots) where
   -- the list of a place is no longer than the number of spans that hold it
   list-crowd : (i : ℕ) → i < length words → length (listAt starts slots i) ≤ crowd i (entriesIn words ones twos)
-  unfolding crowd
   list-crowd i h =
-      rw (← numbers-row words ones twos 0 (length words)) (rw (length-keep-map (isOver i) (spanAt words ones twos) (numbers 0 (length words)))
+      rw (← numbers-row words ones twos 0 (length words)) (rw (crowd-map i (spanAt words ones twos) (numbers 0 (length words)))
       (rising-shorter (λ j s. sooner-apart words twos j j s refl) (keep (λ j. isOver i (spanAt words ones twos j)) (numbers 0 (length words)))
       (prepared .sorted i h) held))
     where

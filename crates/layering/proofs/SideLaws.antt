@@ -2,15 +2,15 @@
 use mathlib.Core.Path.{_≡_, refl, sym, ap, _∙_}
 use mathlib.Core.Logic.{_⊎_, inl, inr, ⊎-elim}
 use mathlib.Core.Bool.{Bool, true, false}
-use mathlib.Core.List.{List, [], _∷_}
+use mathlib.Core.List.{List}
 use Prim.Native.Nat.{ℕ, _+_, _-_, _^_, _≤_, _<_}
 use native.Mathlib.Omega.{arith}
 use lib.ListN.{length, getD, take, drop}
 use lib.Dec.{eqb, leb}
 use borrow.Author.Tests.{eqb-true, eq-eqb, leb-true, leb-false}
-use Rattle.sequence.specs.Lists.{In, first, later}
+use Rattle.sequence.specs.Lists.{In}
 use Rattle.sequence.proofs.FillingLaws.{same-or-not}
-use Rattle.memory.specs.Memory.{bitsOf, Below}
+use Rattle.memory.specs.Memory.{Below}
 use Rattle.tables.specs.Prepared.{listAt}
 use Rattle.walk.specs.Steps.{isLeft, Unmarked}
 use Rattle.walk.proofs.Candidates.{sooner-apart}
@@ -21,13 +21,6 @@ use Rattle.tables.proofs.PreparedLaws.{span-says}
 use Rattle.layering.specs.Digits.{Apart, Spread, MarkedWith, Filled}
 use Rattle.layering.specs.States.{Laid, Sides}
 use Rattle.layering.proofs.StateLaws.{list-long}
-
--- ---- digits that are all 0
-
-pub all-digits : (marks js : List ℕ) → ((j : ℕ) → In j js → isLeft marks j ≡ true) → bitsOf marks js ≡ 0
-unfolding bitsOf
-all-digits marks [] h = refl
-all-digits marks (j ∷ js) h = rw (h j first) (all-digits marks js (λ k m. h k (later m)))
 
 -- ---- the list of a place
 

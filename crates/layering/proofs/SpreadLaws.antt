@@ -12,7 +12,8 @@ use lib.Seq.{drop-cons, drop-length, getD-set-same, getD-set-other}
 use Rattle.sequence.specs.Lists.{In, first, later, Rising, rises, flat}
 use Rattle.sequence.proofs.ListLaws.{not-in-nil, in-cons}
 use Rattle.sequence.proofs.FillingLaws.{getD-in}
-use Rattle.memory.specs.Memory.{markOf, withMark, bitsOf}
+use Rattle.memory.specs.Memory.{markOf, withMark}
+use Rattle.memory.proofs.KeyLaws.{bits-is}
 use Rattle.layering.specs.Digits.{Apart, Spread}
 
 -- marks that a list has in common give the same digits
@@ -96,9 +97,8 @@ module _ (list marks₀ : List ℕ) (b : ℕ) where
         again = let e = mark-digit (set marks own x) own (rw own-mark low) ∙ own-mark in omega arith
 
     pub spreading-all : k ≤ 0 → Spread list marks₀ b marks
-    unfolding bitsOf
     spreading-all h =
         let none : k ≡ 0 = omega arith in
         let no-rest : rest ≡ 0 = omega (arith, rw none at (s .few), pow-zero 2) in
         let whole : foldl (withMark marks) 0 list ≡ b = rw (none, no-rest) at (s .digits) in
-        record { all = s .all; digits = whole; small = λ j m. s .small j (rw none m); others = s .others }
+        record { all = s .all; digits = bits-is marks list ∙ whole; small = λ j m. s .small j (rw none m); others = s .others }

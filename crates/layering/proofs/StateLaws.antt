@@ -1,11 +1,10 @@
 -- Laws of states: their cells, what the chances of one say of what is completed from it, and the marks around a placement. Assumes nothing.
 use mathlib.Core.Path.{_≡_, refl, sym, ap, _∙_}
 use mathlib.Core.Bool.{Bool, true, false, _&&_, not, true≢false}
-use mathlib.Core.List.{List, [], _∷_, _++_, map, flatMap, foldl}
+use mathlib.Core.List.{List, [], _∷_, _++_, map, flatMap}
 use mathlib.Core.Option.{some}
 use Prim.Native.Nat.{ℕ, suc, _+_, _-_, _*_, _%_, _^_, _≤_, _<_}
 use native.Mathlib.Omega.{arith}
-use native.Mathlib.Nat.{pow-suc, pow-zero, mul-comm, mul-assoc}
 use native.Mathlib.Numerals.{add-one}
 use lib.Pow.{pow-mono}
 use lib.Dec.{eqb, ltb}
@@ -15,11 +14,12 @@ use borrow.Author.Tests.{eqb-true, eq-eqb, ne-eqb}
 use Rattle.sequence.specs.Lists.{In, first}
 use Rattle.sequence.proofs.ListLaws.{in-keep}
 use Rattle.layers.specs.Narrow.{mostOver}
-use Rattle.layers.specs.Completed.{paths, isSome}
-use Rattle.memory.specs.Memory.{withMark, bitsOf}
-use Rattle.memory.proofs.KeyLaws.{mark-small}
+use Rattle.layers.specs.Completed.{isSome}
+use Rattle.layers.proofs.Paths.{paths-end}
+use Rattle.memory.specs.Memory.{bitsOf}
+use Rattle.memory.proofs.KeyLaws.{bits-few}
 use Rattle.tables.specs.Prepared.{listAt}
-use Rattle.walk.specs.Steps.{isLeft, agrees, isDue}
+use Rattle.walk.specs.Steps.{isLeft, left, agrees, isDue}
 use Rattle.walk.specs.Going.{later-on}
 use Rattle.walk.proofs.PlaceLaws.{list-lent}
 use Rattle.layering.specs.Digits.{digit, picked}
@@ -30,17 +30,6 @@ use Rattle.layering.proofs.ChooseLaws.{chosen-some}
 use Rattle.layering.proofs.PlaceLaws.{tried-next}
 
 -- ---- cells
-
-fold-few : (marks : List ℕ) (b c : ℕ) (js : List ℕ) → b < c → foldl (withMark marks) b js < c * 2 ^ length js
-fold-few marks b c [] h = omega (arith, pow-zero 2)
-fold-few marks b c (j ∷ js) h =
-    let more = fold-few marks (withMark marks b j) (c * 2) js (omega (arith, mark-small marks j)) in
-    rw (pow-suc 2 (length js)) (rw (mul-comm (2 ^ length js) 2) (rw (← mul-assoc c 2 (2 ^ length js)) more))
-
--- the marks of a list are a number of as many digits
-pub bits-few : (marks js : List ℕ) → bitsOf marks js < 2 ^ length js
-unfolding bitsOf
-bits-few marks js = omega (arith, fold-few marks 0 1 js (omega arith))
 
 pub cell-is : (list marks : List ℕ) (i : ℕ) {b : ℕ} → length list ≤ mostOver → b ≡ bitsOf marks list → Cell list marks i (cellsOver * i + b)
 cell-is list marks i h e =
@@ -163,8 +152,9 @@ cell-completes {l} {words} {ones} {twos} {starts} {slots} {marks} table {i} {lo}
 
 -- past the last place it is complete
 pub completes-all : (l : ℕ) (words ones twos marks : List ℕ) {i : ℕ} (want : ℕ) → i ≡ length words → Completes l words ones twos marks i want true
-unfolding paths
-completes-all l words ones twos marks {i} want e = record { each = λ p wants. let none : length words - i ≡ 0 = omega arith in rw none }
+completes-all l words ones twos marks {i} want e = record {
+  each = λ p wants. let none : length words - i ≡ 0 = omega arith in rw (none, paths-end l i p (left words ones twos marks));
+}
 
 -- what is completed once an entry stands
 pub completes-after : (l : ℕ) (words ones twos marks : List ℕ) (i e : ℕ) {want : ℕ} {r : Bool} → want ≡ getD words e 0 % 4 ^ (l - 1)

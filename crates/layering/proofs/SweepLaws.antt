@@ -15,14 +15,13 @@ use borrow.Author.Tests.{eq-eqb, ne-eqb}
 use Rattle.sequence.proofs.FillingLaws.{same-or-not}
 use Rattle.layers.specs.Narrow.{mostOver}
 use Rattle.memory.specs.Memory.{bitsOf}
+use Rattle.memory.proofs.KeyLaws.{bits-none, bits-few}
 use Rattle.tables.specs.Prepared.{listAt}
 use Rattle.walk.specs.Steps.{Unmarked}
 use Rattle.layering.specs.States.{cellsOver, Laid, Sides, cellOf, Chances, isKept}
 use Rattle.layering.specs.Stepping.{Told, Trying}
 use Rattle.layering.specs.Sweeping.{Half}
 use Rattle.layering.proofs.PlaceLaws.{tried-next, states-one}
-use Rattle.layering.proofs.StateLaws.{bits-few}
-use Rattle.layering.proofs.SideLaws.{all-digits}
 
 -- a number that is not 0 keeps a state
 kept-is : (x : ℕ) → (x ≡ 0 → ⊥) → not (eqb x 0) ≡ true
@@ -183,5 +182,5 @@ pub begun-kept : {l : ℕ} {words ones twos starts slots table marks : List ℕ}
     → isKept starts slots marks (h .keeps) 0 ≡ true
 begun-kept {words = words} {starts = starts} {slots = slots} {marks = marks} h laid u all some =
     let none : bitsOf marks (listAt starts slots 0) ≡ 0 =
-    all-digits marks (listAt starts slots 0) (λ j m. u .each j (omega (arith, laid .prepared .here 0 j some m .0))) in
+    bits-none marks (listAt starts slots 0) (λ j m. u .each j (omega (arith, laid .prepared .here 0 j some m .0))) in
     rw none (kept-is _ (h .begun))

@@ -14,8 +14,9 @@ use Rattle.sequence.specs.Lists.{In, first, later}
 use Rattle.layers.specs.Narrow.{mostOver}
 use Rattle.layers.specs.Completed.{isSome}
 use Rattle.tables.specs.Prepared.{part, listAt}
-use Rattle.walk.specs.Steps.{noWord, tries}
+use Rattle.walk.specs.Steps.{noWord}
 use Rattle.walk.proofs.StepLaws.{part-cons, part-none, in-part, list-is}
+use Rattle.walk.proofs.TriedLaws.{tries-skip, tries-take}
 use Rattle.layering.specs.Digits.{digit, told}
 use Rattle.layering.specs.States.{duesIn, canStand, triedAt, after, Chances}
 use Rattle.layering.specs.Stepping.{Trials, Trying, Placing}
@@ -73,8 +74,14 @@ module _ {l : ℕ} {words ones twos starts slots marks table : List ℕ} {i : �
       pub trials-below : own < length words
       trials-below = asked .laid .prepared .here i own (asked .inside) (rw the-list at (in-part slots lo end k (s .from) h ends)) .0
 
+      abbrev ok : ℕ → Bool
+      ok = canStand twos marks i due
+
+      abbrev word : ℕ → ℕ
+      word j = getD words j 0
+
       abbrev isTried : Bool
-      isTried = canStand twos marks i due own && not (eqb (getD words own 0) tried)
+      isTried = ok own && not (eqb (word own) tried)
 
       one-more : part slots k end ≡ own ∷ part slots (k + 1) end
       one-more = part-cons slots k end h ends
@@ -86,29 +93,28 @@ module _ {l : ℕ} {words ones twos starts slots marks table : List ℕ} {i : �
 
       -- who is tried is one of those that are tried
       pub trials-in : isTried ≡ true → In own (triedAt words twos starts slots marks i)
-      unfolding tries
-      trials-in e = s .among own (rw one-more (rw e first))
+      trials-in e = s .among own (rw (one-more, tries-take ok word tried own (part slots (k + 1) end) e) first)
 
       pub trials-skip : isTried ≡ false → Trials l words ones twos starts slots marks i (k + 1) due (2 * c) tried
-      unfolding told tries
+      unfolding told
       trials-skip e = record {
         from = omega (arith, s .from);
         to = omega arith;
         due-is = s .due-is;
         few = more-few (omega arith);
-        among = λ j m. s .among j (rw one-more (rw e m));
+        among = λ j m. s .among j (rw (one-more, tries-skip ok word tried own (part slots (k + 1) end) e) m);
         rest = sym (rw one-more (rw e)) ∙ s .rest;
       }
 
       pub trials-take : {d : ℕ} {b : Bool} → isTried ≡ true → isSome (after l words ones twos marks i own) ≡ b → d ≡ 2 * c + digit b
           → Trials l words ones twos starts slots marks i (k + 1) due d (getD words own 0)
-      unfolding told tries
+      unfolding told
       trials-take {d} {b} e leads is = record {
         from = omega (arith, s .from);
         to = omega arith;
         due-is = s .due-is;
         few = more-few (low b is);
-        among = λ j m. s .among j (rw one-more (rw e (later m)));
+        among = λ j m. s .among j (rw (one-more, tries-take ok word tried own (part slots (k + 1) end) e) (later m));
         rest = ap (λ x. told (canStand twos marks i due) (λ j. isSome (after l words ones twos marks i j)) (λ j. getD words j 0) x
             (getD words own 0) (part slots (k + 1) end)) (is ∙ ap (λ x. 2 * c + digit x) (sym leads)) ∙ sym (rw one-more (rw e)) ∙ s .rest;
       }

@@ -1,11 +1,11 @@
 -- A narrow card with 8 spans over a place has no build: they would all stand within 7 places. Assumes nothing.
-use mathlib.Core.Path.{_≡_, refl}
+use mathlib.Core.Path.{_≡_, refl, ap, _∙_}
 use mathlib.Core.Bool.{Bool, true, false, cond}
-use mathlib.Core.List.{List, [], _∷_}
+use mathlib.Core.List.{List, [], _∷_, map}
 use mathlib.Core.Option.{Option}
 use Prim.Native.Nat.{ℕ, suc, _+_, _-_, _≤_, _<_}
 use native.Mathlib.Omega.{arith}
-use lib.ListN.{length}
+use lib.ListN.{length, length-map}
 use lib.Dec.{leb, leb→le}
 use borrow.Author.Tests.{leb-true}
 use Rattle.entries.specs.declared.Slot.{Slot}
@@ -17,7 +17,13 @@ use Rattle.sequence.proofs.ListLaws.{in-left, taken-is-in, length-taken}
 use Rattle.spans.specs.Settling.{spanEntries}
 use Rattle.spans.proofs.Feasible.{Feasible, stop, step}
 use Rattle.spans.proofs.Builds.{build-complete}
+use Rattle.spans.proofs.Indices.{keep-map}
 use Rattle.layers.specs.Narrow.{widestNarrow, isNarrow, Narrow, isOver, crowd, mostOver}
+
+-- of entries that are told by a list, as by that of their indices
+pub crowd-map : {A : Type 0} (i : ℕ) (entry : A → Slot) (l : List A) → crowd i (map entry l) ≡ length (keep (λ x. isOver i (entry x)) l)
+unfolding crowd
+crowd-map i entry l = ap length (keep-map (isOver i) entry l) ∙ length-map (keep (λ x. isOver i (entry x)) l) entry
 
 abbrev one-more : Bool → ℕ
 one-more t = cond t 1 0

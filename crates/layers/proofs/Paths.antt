@@ -9,16 +9,22 @@ use lib.ListN.{length}
 use lib.Dec.{eqb}
 use borrow.Author.Tests.{eqb-true, eqb-false, eq-eqb, ne-eqb}
 use Rattle.entries.specs.declared.Slot.{Slot}
-use Rattle.sequence.specs.Lists.{In, Rising, keep, numbers}
+use Rattle.sequence.specs.Lists.{Choice, In, Rising, keep, numbers}
 use Rattle.sequence.specs.Build.{Build}
 use Rattle.sequence.specs.Verdict.{Tells, settled}
-use Rattle.spans.specs.Walk.{wordOf, isCandidate, tried, walk, walked, builds, placements}
+use Rattle.spans.specs.Walk.{wordOf, isCandidate, tried, walk, builds, placements}
 use Rattle.spans.specs.Settling.{Entered, spanEntries, verdictOn, Means, settles}
 use Rattle.spans.proofs.Feasible.{Allowed}
 use Rattle.spans.proofs.Order.{Sooner, firsts}
+use Rattle.spans.proofs.WalkLaws.{walk-end, walk-more, walked-is, builds-is}
 use Rattle.spans.proofs.Indices.{choiceIn, walk-table}
 use Rattle.spans.proofs.Meant.{outcome-means, outcome-settles}
 use Rattle.layers.specs.Completed.{paths}
+
+-- past the last place it is complete
+pub paths-end : (l i : ℕ) (p : Option ℕ) (left : List Slot) → paths l 0 i p left ≡ [] ∷ []
+unfolding paths
+paths-end l i p left = refl
 
 module _ {A : Type 0} where
   keep-append : (test : A → Bool) (l m : List A) → keep test (l ++ m) ≡ keep test l ++ keep test m
@@ -56,21 +62,27 @@ full-cons w n (ws ∷ l) = rw (eqb-suc (length ws) n) (go (eqb (length ws) n) (f
     go true e = ap (λ r. (w ∷ ws) ∷ r) e
     go false e = e
 
+-- from a place, by what each choice leads to
+full-more : (l n i : ℕ) (p : Option ℕ) (left : List Slot)
+    → ((c : Choice Slot) → full (suc n) (map (λ ws. wordOf c ∷ ws) ([] ∷ walk l n (suc i) (some (wordOf c)) (c .left)))
+    ≡ map (λ ws. wordOf c ∷ ws) (paths l n (suc i) (some (wordOf c)) (c .left)))
+    → full (suc n) (walk l (suc n) i p left) ≡ paths l (suc n) i p left
+unfolding paths
+full-more l n i p left led =
+    ap (full (suc n)) (walk-more l n i p left) ∙ keep-flatMap (λ ws. eqb (length ws) (suc n)) _ _ led (tried l i p left)
+
 -- what a choice leads to, in full
 full-led : (l n i w : ℕ) (p : Option ℕ) (left : List Slot)
     → full (suc n) (map (λ ws. w ∷ ws) ([] ∷ walk l n i p left)) ≡ map (λ ws. w ∷ ws) (paths l n i p left)
-unfolding walk paths
-full-led l zero i w p left = refl
+unfolding paths
+full-led l zero i w p left = rw (walk-end l i p left)
 full-led l (suc n) i w p left =
     rw (ne-eqb 1 (suc (suc n)) (λ e. omega arith))
     (full-cons w (suc n) (walk l (suc n) i p left)
-    ∙ ap (map (λ ws. w ∷ ws))
-    (keep-flatMap (λ ws. eqb (length ws) (suc n)) _ _ (λ c. full-led l n (suc i) (wordOf c) (some (wordOf c)) (c .left)) (tried l i p left)))
+    ∙ ap (map (λ ws. w ∷ ws)) (full-more l n i p left (λ c. full-led l n (suc i) (wordOf c) (some (wordOf c)) (c .left))))
 
 full-walk : (l n i : ℕ) (p : Option ℕ) (left : List Slot) → full (suc n) (walk l (suc n) i p left) ≡ paths l (suc n) i p left
-unfolding walk paths
-full-walk l n i p left =
-    keep-flatMap (λ ws. eqb (length ws) (suc n)) _ _ (λ c. full-led l n (suc i) (wordOf c) (some (wordOf c)) (c .left)) (tried l i p left)
+full-walk l n i p left = full-more l n i p left (λ c. full-led l n (suc i) (wordOf c) (some (wordOf c)) (c .left))
 
 -- the paths from a place by a table in which the indices of all entries that may stand there are sorted
 pub paths-table : (entry : ℕ → Slot) (m : ℕ) (unused : ℕ → Bool) (l n i : ℕ) (p : Option ℕ) {table : List ℕ}
@@ -89,8 +101,7 @@ paths-table entry m unused l n i p s below there =
 
 -- the builds of a card that has an entry
 pub builds-paths : (l : ℕ) (es : List Slot) → 0 < length es → builds l es ≡ paths l (length es) 0 none es
-unfolding builds walked
-builds-paths l es h = go (length es) h
+builds-paths l es h = builds-is l es ∙ ap (full (length es)) (walked-is l es) ∙ go (length es) h
   where
     go : (n : ℕ) → 0 < n → full n (walk l n 0 none es) ≡ paths l n 0 none es
     go zero h = absurd (omega arith)

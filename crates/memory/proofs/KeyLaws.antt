@@ -5,13 +5,13 @@ use mathlib.Core.Bool.{Bool, true, false, cond}
 use mathlib.Core.List.{List, [], _∷_, foldl}
 use Prim.Native.Nat.{ℕ, _+_, _*_, _/_, _%_, _^_, _≤_, _<_}
 use native.Mathlib.Omega.{arith}
-use native.Mathlib.Nat.{pow-suc, mul-add-div-right, div-eq-of-lt, mul-add-mod-self-right, mod-eq-of-lt}
+use native.Mathlib.Nat.{pow-suc, pow-zero, mul-comm, mul-assoc, mul-add-div-right, div-eq-of-lt, mul-add-mod-self-right, mod-eq-of-lt}
 use native.Mathlib.Numerals.{add-one}
 use lib.Pow.{pow-mono}
 use lib.Dec.{eqb}
 use lib.ListN.{length, getD, drop}
 use Rattle.block.proofs.Fold.{fold-turn, fold-end}
-use Rattle.sequence.specs.Lists.{In}
+use Rattle.sequence.specs.Lists.{In, first, later}
 use Rattle.sequence.proofs.ListLaws.{not-in-nil, in-cons}
 use Rattle.memory.specs.Memory.{fewMarks, markValues, markOf, withMark, bitsOf, Bits, KeyOf}
 
@@ -23,6 +23,28 @@ mark-small marks j = go (eqb (getD marks j 0) 0)
     go : (b : Bool) → cond b 0 1 ≤ 1
     go true = omega arith
     go false = omega arith
+
+-- the digits, one entry after the other
+pub bits-is : (marks js : List ℕ) → bitsOf marks js ≡ foldl (withMark marks) 0 js
+unfolding bitsOf
+bits-is marks js = refl
+
+-- where each entry is left they are all 0
+pub bits-none : (marks js : List ℕ) → ((j : ℕ) → In j js → eqb (getD marks j 0) 0 ≡ true) → bitsOf marks js ≡ 0
+unfolding bitsOf
+bits-none marks [] h = refl
+bits-none marks (j ∷ js) h = rw (h j first) (bits-none marks js (λ k m. h k (later m)))
+
+fold-few : (marks : List ℕ) (b c : ℕ) (js : List ℕ) → b < c → foldl (withMark marks) b js < c * 2 ^ length js
+fold-few marks b c [] h = omega (arith, pow-zero 2)
+fold-few marks b c (j ∷ js) h =
+    let more = fold-few marks (withMark marks b j) (c * 2) js (omega (arith, mark-small marks j)) in
+    rw (pow-suc 2 (length js)) (rw (mul-comm (2 ^ length js) 2) (rw (← mul-assoc c 2 (2 ^ length js)) more))
+
+-- the marks of a list are a number of as many digits
+pub bits-few : (marks js : List ℕ) → bitsOf marks js < 2 ^ length js
+unfolding bitsOf
+bits-few marks js = omega (arith, fold-few marks 0 1 js (omega arith))
 
 -- so few marks are not many values
 few-bits : (n bits : ℕ) → n ≤ fewMarks → bits < 2 ^ n → bits < markValues

@@ -41,7 +41,7 @@ module _ {A B : Type 0} where
   flatMap-same f g [] h = refl
   flatMap-same f g (x ∷ l) h = ap₂ (λ r s. r ++ s) (h x) (flatMap-same f g l h)
 
-  keep-map : (test : B → Bool) (f : A → B) (l : List A) → keep test (map f l) ≡ map f (keep (λ x. test (f x)) l)
+  pub keep-map : (test : B → Bool) (f : A → B) (l : List A) → keep test (map f l) ≡ map f (keep (λ x. test (f x)) l)
   keep-map test f [] = refl
   keep-map test f (x ∷ l) = go (test (f x)) (keep-map test f l)
     where

@@ -1,5 +1,6 @@
 -- `Feasible`: what the walk can reach, and the exchange of two entries.
 -- `Tried`: what the walk tries at a place.
+-- `WalkLaws`: the walk, one place after the other.
 -- `Reached`: it reaches the feasible lists of words and no others, in alphabetical order.
 -- `Builds`: the builds that it completes are the builds of the card, each once.
 -- `Chains`: builds compare as the sequences that they spell.
@@ -12,6 +13,7 @@
 -- `Promises`: what is promised of span cards, for a reader.
 pub mod Feasible
 pub mod Tried
+pub mod WalkLaws
 pub mod Reached
 pub mod Builds
 pub mod Chains

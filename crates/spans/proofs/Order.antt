@@ -106,6 +106,24 @@ module _ (word last : ℕ → ℕ) where
   firsts [] = []
   firsts (j ∷ js) = j ∷ firstsAfter (word j) js
 
+  -- one after the other
+  pub firsts-after-none : (w : ℕ) → firstsAfter w [] ≡ []
+  unfolding firstsAfter
+  firsts-after-none w = refl
+
+  pub firsts-after-more : (w j : ℕ) (js : List ℕ)
+      → firstsAfter w (j ∷ js) ≡ cond (eqb (word j) w) (firstsAfter w js) (j ∷ firstsAfter (word j) js)
+  unfolding firstsAfter
+  firsts-after-more w j js = refl
+
+  pub firsts-none : firsts [] ≡ []
+  unfolding firsts
+  firsts-none = refl
+
+  pub firsts-more : (j : ℕ) (js : List ℕ) → firsts (j ∷ js) ≡ j ∷ firstsAfter (word j) js
+  unfolding firsts
+  firsts-more j js = refl
+
   -- the same where those with the word w are left out
   record PickedAfter (w : ℕ) (source picks : List ℕ) : Type 0 where
     rising : Rising (λ j k. word j < word k) picks

@@ -1,5 +1,4 @@
--- A run under a budget answers what the definition does; a run over two lists is two runs.
--- Assumes nothing.
+-- A run under a budget, one placement after the other; it answers what the definition does, and over two lists it is two runs. Assumes nothing.
 use mathlib.Core.Path.{_≡_, refl, sym, _∙_, ap, ap₂}
 use mathlib.Core.Bool.{Bool, true, false, cond, not, _&&_}
 use mathlib.Core.Option.{Option, some}
@@ -20,6 +19,75 @@ use Rattle.spans.proofs.Builds.{walked-feasible, complete-worded}
 use Rattle.spans.proofs.Order.{Sooner, firsts}
 use Rattle.spans.proofs.Indices.{choiceIn, walk-table}
 use Rattle.spans.specs.Run.{Run, searching, one, two, spent, reach, run, comeTo}
+
+-- ---- a run, one placement after the other
+
+module _ (m budget : ℕ) where
+  pub reach-searching : (n : ℕ) (ws : List ℕ)
+      → reach m budget (searching n) ws ≡ cond (leb budget n) spent (cond (eqb (length ws) m) (one ws (suc n)) (searching (suc n)))
+  unfolding reach
+  reach-searching n ws = refl
+
+  pub reach-one : (vs : List ℕ) (n : ℕ) (ws : List ℕ)
+      → reach m budget (one vs n) ws ≡ cond (leb budget n) spent (cond (eqb (length ws) m) (two vs (suc n)) (one vs (suc n)))
+  unfolding reach
+  reach-one vs n ws = refl
+
+  pub run-none : (r : Run) → run m budget r [] ≡ r
+  unfolding run
+  run-none r = refl
+
+  pub run-more : (r : Run) (ws : List ℕ) (reached : List (List ℕ))
+      → run m budget r (ws ∷ reached) ≡ run m budget (reach m budget r ws) reached
+  unfolding run
+  run-more r ws reached = refl
+
+  -- a run that is over stays as it is
+  pub reach-two : (vs : List ℕ) (n : ℕ) (ws : List ℕ) → reach m budget (two vs n) ws ≡ two vs n
+  unfolding reach
+  reach-two vs n ws = refl
+
+  pub reach-spent : (ws : List ℕ) → reach m budget spent ws ≡ spent
+  unfolding reach
+  reach-spent ws = refl
+
+  pub run-two : (vs : List ℕ) (n : ℕ) (reached : List (List ℕ)) → run m budget (two vs n) reached ≡ two vs n
+  unfolding run
+  run-two vs n [] = refl
+  run-two vs n (ws ∷ reached) = run-two vs n reached
+
+  pub run-spent : (reached : List (List ℕ)) → run m budget spent reached ≡ spent
+  unfolding run
+  run-spent [] = refl
+  run-spent (ws ∷ reached) = run-spent reached
+
+-- ---- the builds that are complete, or 3 where the budget is spent: they never fall
+
+abbrev pub stateOf : Run → ℕ
+stateOf (searching n) = 0
+stateOf (one vs n) = 1
+stateOf (two vs n) = 2
+stateOf spent = 3
+
+module _ (m budget : ℕ) where
+  reach-rises : (r : Run) (ws : List ℕ) → stateOf r ≤ stateOf (reach m budget r ws)
+  unfolding reach
+  reach-rises (searching n) ws = omega arith
+  reach-rises (one vs n) ws = go (leb budget n) (eqb (length ws) m)
+    where
+      go : (s t : Bool) → 1 ≤ stateOf (cond s spent (cond t (two vs (suc n)) (one vs (suc n))))
+      go true t = omega arith
+      go false true = omega arith
+      go false false = omega arith
+  reach-rises (two vs n) ws = omega arith
+  reach-rises spent ws = omega arith
+
+  pub run-rises : (reached : List (List ℕ)) (r : Run) → stateOf r ≤ stateOf (run m budget r reached)
+  unfolding run
+  run-rises [] r = omega arith
+  run-rises (ws ∷ reached) r = omega (arith, reach-rises r ws, run-rises reached (reach m budget r ws))
+
+-- ---- the run over two lists
 
 pub run-append : (m budget : ℕ) (r : Run) (a b : List (List ℕ)) → run m budget r (a ++ b) ≡ run m budget (run m budget r a) b
 unfolding run
@@ -70,18 +138,6 @@ run-place m budget entry unused l n i p path r s below there =
     (λ j. walk l n (suc i) (some (entry j .word)) (map entry (keep (λ k. unused k && not (eqb k j)) (numbers 0 m)))) _ r
 
 -- ---- the answer of a run
-
-module _ (m budget : ℕ) where
-  -- a run that is over stays as it is
-  pub run-two : (vs : List ℕ) (n : ℕ) (reached : List (List ℕ)) → run m budget (two vs n) reached ≡ two vs n
-  unfolding run
-  run-two vs n [] = refl
-  run-two vs n (ws ∷ reached) = run-two vs n reached
-
-  pub run-spent : (reached : List (List ℕ)) → run m budget spent reached ≡ spent
-  unfolding run
-  run-spent [] = refl
-  run-spent (ws ∷ reached) = run-spent reached
 
 up-to-none : (m : ℕ) (reached : List (List ℕ)) → upTo m 0 reached ≡ 0
 unfolding upTo

@@ -1,5 +1,5 @@
 -- What a run makes of a state from which no build is reached, and how a run tells one. Assumes nothing.
-use mathlib.Core.Path.{_≡_, refl}
+use mathlib.Core.Path.{_≡_, refl, _∙_}
 use mathlib.Core.Bool.{Bool, true, false, cond}
 use mathlib.Core.List.{List, [], _∷_, _++_, map}
 use Prim.Native.Nat.{ℕ, suc, _+_, _≤_, _<_}
@@ -8,8 +8,7 @@ use lib.ListN.{length, length-append}
 use lib.Dec.{eqb, leb}
 use borrow.Author.Tests.{leb-true, leb-false, lt-leb, eqb-false, ne-eqb}
 use Rattle.spans.specs.Run.{Run, searching, one, two, spent, reach, run}
-use Rattle.spans.proofs.Runs.{run-spent}
-use Rattle.memory.specs.Tally.{outOfBudget}
+use Rattle.spans.proofs.Runs.{stateOf, reach-searching, reach-one, run-none, run-more, run-rises, run-spent}
 use Rattle.walk.specs.Going.{Shows, none-yet, one-build, two-builds, stopped}
 use Rattle.walk.specs.Recalling.{Dead, none, more}
 use Rattle.walk.proofs.RunLaws.{shows-spent}
@@ -27,13 +26,7 @@ module _ (path : List ℕ) (n m : ℕ) (sum : length path + n ≡ m) where
   after-dead (ws ∷ reached) (more short d) =
       more (ne-eqb (length ws) n (λ e. omega (arith, eqb-false (length (path ++ ws)) m short, length-append path ws))) (after-dead reached d)
 
--- ---- the builds that are complete, or 3: they never fall
-
-abbrev stateOf : Run → ℕ
-stateOf (searching n) = 0
-stateOf (one vs n) = 1
-stateOf (two vs n) = 2
-stateOf spent = outOfBudget
+-- ---- the state that the code keeps is that of the run
 
 shows-state : {path first : List ℕ} {n state : ℕ} {r : Run} → Shows path n state first r → stateOf r ≡ state
 shows-state (none-yet e) = refl
@@ -49,30 +42,12 @@ placed-same two-builds h t = absurd (omega arith)
 placed-same stopped h t = absurd (omega arith)
 
 module _ (m budget : ℕ) where
-  reach-rises : (r : Run) (ws : List ℕ) → stateOf r ≤ stateOf (reach m budget r ws)
-  unfolding reach
-  reach-rises (searching n) ws = omega arith
-  reach-rises (one vs n) ws = go (leb budget n) (eqb (length ws) m)
-    where
-      go : (s t : Bool) → 1 ≤ stateOf (cond s spent (cond t (two vs (suc n)) (one vs (suc n))))
-      go true t = omega arith
-      go false true = omega arith
-      go false false = omega arith
-  reach-rises (two vs n) ws = omega arith
-  reach-rises spent ws = omega arith
-
-  run-rises : (reached : List (List ℕ)) (r : Run) → stateOf r ≤ stateOf (run m budget r reached)
-  unfolding run
-  run-rises [] r = omega arith
-  run-rises (ws ∷ reached) r = omega (arith, reach-rises r ws, run-rises reached (reach m budget r ws))
-
   -- ---- a placement that completes no build, and one that is made
 
   reach-on : {path kept : List ℕ} {n state : ℕ} {r : Run} → Shows path n state kept r → state < 2 → n < budget
       → (ws : List ℕ) → eqb (length ws) m ≡ false → Shows path (suc n) state kept (reach m budget r ws)
-  unfolding reach
-  reach-on (none-yet {n} e) h lt ws short = rw (lt-leb budget n lt, short) (none-yet e)
-  reach-on (one-build {n}) h lt ws short = rw (lt-leb budget n lt, short) one-build
+  reach-on (none-yet {n} e) h lt ws short = rw (reach-searching m budget n ws, lt-leb budget n lt, short) (none-yet e)
+  reach-on (one-build {n} {first}) h lt ws short = rw (reach-one m budget first n ws, lt-leb budget n lt, short) one-build
   reach-on two-builds h lt ws short = absurd (omega arith)
   reach-on stopped h lt ws short = absurd (omega arith)
 
@@ -82,14 +57,13 @@ module _ (m budget : ℕ) where
 
   reaches : {path kept : List ℕ} {n state : ℕ} {r : Run} → Shows path n state kept r → state < 2 → (ws : List ℕ)
       → Reaches path n state kept ws (reach m budget r ws)
-  unfolding reach
-  reaches {path} (none-yet {n} {first = kept} e) h ws = go (leb budget n) (eqb (length ws) m) refl
+  reaches {path} (none-yet {n} {first = kept} e) h ws = rw (reach-searching m budget n ws) (go (leb budget n) (eqb (length ws) m) refl)
     where
       go : (s t : Bool) → eqb (length ws) m ≡ t → Reaches path n 0 kept ws (cond s spent (cond t (one ws (suc n)) (searching (suc n))))
       go true t q = rises (omega arith)
       go false true q = rises (omega arith)
       go false false q = goes q (none-yet e)
-  reaches {path} (one-build {n} {first = kept}) h ws = go (leb budget n) (eqb (length ws) m) refl
+  reaches {path} (one-build {n} {first = kept}) h ws = rw (reach-one m budget kept n ws) (go (leb budget n) (eqb (length ws) m) refl)
     where
       go : (s t : Bool) → eqb (length ws) m ≡ t → Reaches path n 1 kept ws (cond s spent (cond t (two kept (suc n)) (one kept (suc n))))
       go true t q = rises (omega arith)
@@ -102,10 +76,9 @@ module _ (m budget : ℕ) where
 
   pub run-over : {path kept : List ℕ} {n state : ℕ} {r : Run} {reached : List (List ℕ)} → Dead m reached → Shows path n state kept r
       → state < 2 → n ≤ budget → budget < n + length reached → run m budget r reached ≡ spent
-  unfolding run
   run-over none s h le over = absurd (omega arith)
   run-over {path} {kept} {n} {state} {r} (more {ws} {reached} short d) s h le over =
-      go (leb budget n) refl (λ lt. run-over d (reach-on s h lt ws short) h (omega arith) (omega arith))
+      run-more m budget r ws reached ∙ go (leb budget n) refl (λ lt. run-over d (reach-on s h lt ws short) h (omega arith) (omega arith))
     where
       go : (b : Bool) → leb budget n ≡ b → (n < budget → run m budget (reach m budget r ws) reached ≡ spent)
           → run m budget (reach m budget r ws) reached ≡ spent
@@ -114,23 +87,24 @@ module _ (m budget : ℕ) where
 
   pub run-fits : {path kept : List ℕ} {n state : ℕ} {r : Run} {reached : List (List ℕ)} → Dead m reached → Shows path n state kept r
       → state < 2 → n + length reached ≤ budget → Shows path (n + length reached) state kept (run m budget r reached)
-  unfolding run
-  run-fits {n} none s h le = let z : n + 0 ≡ n = omega arith in rw z s
-  run-fits {n} (more {ws} {reached} short d) s h le =
+  run-fits {n} {r} none s h le = let z : n + 0 ≡ n = omega arith in rw (z, run-none m budget r) s
+  run-fits {n} {r} (more {ws} {reached} short d) s h le =
       let z : n + suc (length reached) ≡ suc n + length reached = omega arith in
-      rw z (run-fits d (reach-on s h (omega arith) ws short) h (omega arith))
+      rw (z, run-more m budget r ws reached) (run-fits d (reach-on s h (omega arith) ws short) h (omega arith))
 
   -- ---- a run that completes no build and is not stopped tells it
 
   pub run-kept : {path path′ kept kept′ : List ℕ} {n n′ state : ℕ} {r : Run} (reached : List (List ℕ)) → Shows path n state kept r
       → state < 2 → Shows path′ n′ state kept′ (run m budget r reached)
       → Dead m reached × (n + length reached ≡ n′)
-  unfolding run
-  run-kept [] s h t = (none, omega (arith, placed-same s h t))
-  run-kept {path} {path′} {kept} {kept′} {n} {n′} {state} {r} (ws ∷ reached) s h t = go (reaches s h ws) (λ v. run-kept reached v h t)
+  run-kept {r} [] s h t = (none, omega (arith, placed-same s h (rw (run-none m budget r) at t)))
+  run-kept {path} {path′} {kept} {kept′} {n} {n′} {state} {r} (ws ∷ reached) s h t = go (reaches s h ws) (λ v. run-kept reached v h t′)
     where
+      t′ : Shows path′ n′ state kept′ (run m budget (reach m budget r ws) reached)
+      t′ = rw (run-more m budget r ws reached) at t
+
       go : Reaches path n state kept ws (reach m budget r ws)
           → (Shows path (suc n) state kept (reach m budget r ws) → Dead m reached × (suc n + length reached ≡ n′))
           → Dead m (ws ∷ reached) × (n + suc (length reached) ≡ n′)
-      go (rises up) below = absurd (omega (arith, run-rises reached (reach m budget r ws), shows-state t))
+      go (rises up) below = absurd (omega (arith, run-rises m budget reached (reach m budget r ws), shows-state t′))
       go (goes short v) below = let k = below v in (more short (k .0), omega (arith, k .1))

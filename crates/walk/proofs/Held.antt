@@ -13,6 +13,8 @@ use lib.Dec.{eqb}
 use borrow.Author.Tests.{eqb-true}
 use Rattle.spans.specs.Walk.{walk}
 use Rattle.spans.specs.Run.{Run, spent, reach, run}
+use Rattle.spans.proofs.WalkLaws.{walk-end}
+use Rattle.spans.proofs.Runs.{run-none}
 use Rattle.tables.specs.Prepared.{part, listAt}
 use Rattle.sequence.specs.Lists.{In, keep}
 use Rattle.memory.specs.Tally.{outOfBudget, Placed}
@@ -132,13 +134,13 @@ module _ {words twos starts slots marks kept : List ℕ} {i placed state budget 
   -- the place is past the last one: nothing is reached
   pub ready-end : (mask want : ℕ) → i ≡ length words
       → Went words twos starts slots marks kept marks kept mask i want budget placed state placed state
-  unfolding walk run
   ready-end mask want e = record {
     unmarked = refl;
     firsts = refl;
     within = ready .within;
     grows = omega arith;
-    runs = λ l ones p path r s w. let none : length words - i ≡ 0 = omega arith in rw none w;
+    runs = λ l ones p path r s w. let none : length words - i ≡ 0 = omega arith in
+        rw (none, walk-end l i p (left words ones twos marks), run-none (length words) budget r) w;
   }
 
   abbrev own-place : i < length words → Place i words (ready .ones) twos starts slots marks

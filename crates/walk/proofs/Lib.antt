@@ -1,11 +1,13 @@
 -- `KeepLaws`: tests, and those of a list that pass one.
 -- `StepLaws`: the slots of a place: what is due, what is opened, and what is tried from a slot on.
+-- `TriedLaws`: what is tried of a list, of equal words the first.
 -- `PlaceLaws`: the list of a place, by where it begins and ends.
 -- `Candidates`: who is a candidate at a place, by the place's list alone.
 -- `RunLaws`: the run at a place, as the code makes it. `DeadLaws`: a run over what completes no build.
 -- `RecallLaws`: what is remembered of a state is true, and what is told of it is what the walk would come to.
 pub mod KeepLaws
 pub mod SpanLaws
+pub mod TriedLaws
 pub mod StepLaws
 pub mod Candidates
 pub mod RunLaws

@@ -1,22 +1,20 @@
 -- The run at a place, as the code makes it: a fold over what is tried from a slot on, each a placement and the run below it. What the code
 -- keeps shows the run. Assumes nothing.
 use mathlib.Core.Path.{_≡_, refl, sym, ap, _∙_}
-use mathlib.Core.Logic.{⊎-elim}
 use mathlib.Core.Bool.{Bool, true, false, cond, _&&_, not}
 use mathlib.Core.List.{List, [], _∷_, _++_, map, foldl}
-use Prim.Native.Nat.{ℕ, suc, _+_, _-_, _<_}
+use Prim.Native.Nat.{ℕ, suc, _+_, _<_}
 use native.Mathlib.Omega.{arith}
 use native.Mathlib.Numerals.{add-one}
 use lib.ListN.{length, set, take, length-append, length-set}
 use lib.Seq.{take-all, take-take, take-at, take-suc-set, getD-set-same, getD-set-other}
 use lib.Dec.{eqb}
-use borrow.Author.Tests.{eqb-true, eqb-false, ne-eqb, le-leb, lt-leb}
+use borrow.Author.Tests.{eqb-true, eqb-false, le-leb, lt-leb}
 use Rattle.sequence.specs.Lists.{In, first, later, keep, numbers}
-use Rattle.sequence.proofs.ListLaws.{in-cons}
 use Rattle.spans.specs.Run.{Run, searching, one, two, spent, reach}
-use Rattle.spans.proofs.Order.{firsts, firstsAfter}
+use Rattle.spans.proofs.Runs.{reach-searching, reach-one}
 use Rattle.memory.specs.Tally.{Placed}
-use Rattle.walk.specs.Steps.{isLeft, spanAt, left, tries}
+use Rattle.walk.specs.Steps.{isLeft, spanAt, left}
 use Rattle.walk.specs.Going.{Shows, none-yet, one-build, two-builds, stopped}
 use Rattle.walk.proofs.KeepLaws.{and-false, and-true, keep-same}
 
@@ -28,52 +26,14 @@ fold-same f g [] b h = refl
 fold-same f g (x ∷ l) b h =
     ap (λ c. foldl f c l) (h b x first) ∙ fold-same f g l (g b x) (λ c y m. h c y (later m))
 
--- ---- what is tried of a list
+-- ---- the entries that are left
 
-module _ (ok : ℕ → Bool) (word last : ℕ → ℕ) where
-  pub tries-in : (w : ℕ) (js : List ℕ) {j : ℕ} → In j (tries ok word w js) → In j js
-  unfolding tries
-  tries-in w (k ∷ js) {j} h = go (ok k && not (eqb (word k) w)) (tries-in (word k) js) (tries-in w js) h
-    where
-      go : (t : Bool) → (In j (tries ok word (word k) js) → In j js) → (In j (tries ok word w js) → In j js)
-          → In j (cond t (k ∷ tries ok word (word k) js) (tries ok word w js))
-          → In j (k ∷ js)
-      go true new old m = ⊎-elim (λ e. rw e first) (λ g. later (new g)) (in-cons m)
-      go false new old m = later (old m)
+pub left-is : (words ones twos marks : List ℕ)
+    → left words ones twos marks ≡ map (spanAt words ones twos) (keep (isLeft marks) (numbers 0 (length words)))
+unfolding left
+left-is words ones twos marks = refl
 
-  tries-after : (w : ℕ) (js : List ℕ) → firstsAfter word last w (keep ok js) ≡ tries ok word w js
-  unfolding tries firstsAfter
-  tries-after w [] = refl
-  tries-after w (j ∷ js) = go (ok j) (tries-after (word j) js) (tries-after w js)
-    where
-      by : (t : Bool) → firstsAfter word last (word j) (keep ok js) ≡ tries ok word (word j) js
-          → firstsAfter word last w (keep ok js) ≡ tries ok word w js
-          → cond t (firstsAfter word last w (keep ok js)) (j ∷ firstsAfter word last (word j) (keep ok js))
-          ≡ cond (not t) (j ∷ tries ok word (word j) js) (tries ok word w js)
-      by true new old = old
-      by false new old = ap (λ r. j ∷ r) new
-
-      go : (s : Bool) → firstsAfter word last (word j) (keep ok js) ≡ tries ok word (word j) js
-          → firstsAfter word last w (keep ok js) ≡ tries ok word w js
-          → firstsAfter word last w (cond s (j ∷ keep ok js) (keep ok js))
-          ≡ cond (s && not (eqb (word j) w)) (j ∷ tries ok word (word j) js) (tries ok word w js)
-      go true new old = by (eqb (word j) w) new old
-      go false new old = old
-
-  -- the firsts of each word are what is tried where no word was tried yet
-  pub tries-firsts : (w : ℕ) (js : List ℕ) → ((j : ℕ) → In j js → word j ≡ w → ⊥) → firsts word last (keep ok js) ≡ tries ok word w js
-  unfolding tries firsts
-  tries-firsts w [] h = refl
-  tries-firsts w (j ∷ js) h = go (ok j) (tries-firsts w js (λ k m. h k (later m)))
-    where
-      go : (s : Bool) → firsts word last (keep ok js) ≡ tries ok word w js
-          → firsts word last (cond s (j ∷ keep ok js) (keep ok js))
-          ≡ cond (s && not (eqb (word j) w)) (j ∷ tries ok word (word j) js) (tries ok word w js)
-      go true old = rw (ne-eqb (word j) w (h j first)) (ap (λ r. j ∷ r) (tries-after (word j) js))
-      go false old = old
-
--- ---- an entry that is marked is no longer left
-
+-- one that is marked is no longer left
 pub left-set : (marks : List ℕ) (e k : ℕ) → e < length marks → isLeft (set marks e 1) k ≡ (isLeft marks k && not (eqb k e))
 left-set marks e k h = go (eqb k e) refl
   where
@@ -84,9 +44,9 @@ left-set marks e k h = go (eqb k e) refl
 pub left-marked : (words ones twos marks : List ℕ) (e : ℕ) → e < length marks
     → left words ones twos (set marks e 1)
     ≡ map (spanAt words ones twos) (keep (λ k. isLeft marks k && not (eqb k e)) (numbers 0 (length words)))
-unfolding left
 left-marked words ones twos marks e h =
-    ap (map (spanAt words ones twos)) (keep-same (isLeft (set marks e 1)) _ (numbers 0 (length words)) (λ k m. left-set marks e k h))
+    left-is words ones twos (set marks e 1)
+    ∙ ap (map (spanAt words ones twos)) (keep-same (isLeft (set marks e 1)) _ (numbers 0 (length words)) (λ k m. left-set marks e k h))
 
 -- ---- what the code keeps
 
@@ -102,9 +62,8 @@ shows-prefix path w stopped = stopped
 -- a placement that is to be made where the budget is spent
 pub shows-spent : (m budget : ℕ) {path first : List ℕ} {n state : ℕ} {r : Run} → Shows path n state first r → state < 2 → n ≡ budget
     → (ws : List ℕ) → reach m budget r ws ≡ spent
-unfolding reach
-shows-spent m budget (none-yet {n} e) h q ws = rw (le-leb budget n (omega arith))
-shows-spent m budget (one-build {n}) h q ws = rw (le-leb budget n (omega arith))
+shows-spent m budget (none-yet {n} e) h q ws = rw (reach-searching m budget n ws, le-leb budget n (omega arith))
+shows-spent m budget (one-build {n} {first}) h q ws = rw (reach-one m budget first n ws, le-leb budget n (omega arith))
 shows-spent m budget two-builds h q ws = absurd (omega arith)
 shows-spent m budget stopped h q ws = absurd (omega arith)
 
@@ -129,9 +88,8 @@ pub shows-reach : (m budget w : ℕ) {path first : List ℕ} {n state n′ state
     → state < 2 → n < budget
     → length first ≡ m → length path < m → Placed (length path) m n state n′ state′
     → Shows (path ++ (w ∷ [])) n′ state′ (cond (eqb state 0) (set first (length path) w) first) (reach m budget r (path ++ (w ∷ [])))
-unfolding reach
 shows-reach m budget w {path} {n′} {state′} (none-yet {n} {first = kept} e) h lt all inside p =
-    rw (lt-leb budget n lt) (go (eqb (length (path ++ (w ∷ []))) m) refl)
+    rw (reach-searching m budget n (path ++ (w ∷ [])), lt-leb budget n lt) (go (eqb (length (path ++ (w ∷ []))) m) refl)
   where
     count : n′ ≡ suc n
     count = p .count ∙ add-one n
@@ -145,7 +103,7 @@ shows-reach m budget w {path} {n′} {state′} (none-yet {n} {first = kept} e) 
         let other : length path + 1 < m = omega (arith, eqb-false (length (path ++ (w ∷ []))) m q, length-append path (w ∷ [])) in
         rw (p .other other, count) (none-yet (after-set path kept w (omega arith) e))
 shows-reach m budget w {path} {n′} {state′} (one-build {n} {first = kept}) h lt all inside p =
-    rw (lt-leb budget n lt) (go (eqb (length (path ++ (w ∷ []))) m) refl)
+    rw (reach-one m budget kept n (path ++ (w ∷ [])), lt-leb budget n lt) (go (eqb (length (path ++ (w ∷ []))) m) refl)
   where
     count : n′ ≡ suc n
     count = p .count ∙ add-one n

@@ -14,6 +14,7 @@ use Rattle.sequence.specs.Lists.{In, first, later, keep}
 use Rattle.tables.specs.Prepared.{part, listAt}
 use Rattle.walk.specs.Steps.{isLeft, agrees, able, isDue, opened, canTry, tries, ahead, Listed, Opened, Next}
 use Rattle.walk.proofs.KeepLaws.{and-false, and-true}
+use Rattle.walk.proofs.TriedLaws.{tries-none, tries-skip, tries-take}
 
 -- ---- parts
 
@@ -61,6 +62,11 @@ module _ (i want w : ℕ) where
       go true = refl
       go false = refl
 
+-- who is able is left, and its word agrees
+pub able-is : (words marks : List ℕ) (i want e : ℕ) → able words marks i want e ≡ isLeft marks e && agrees i want (getD words e 0)
+unfolding able
+able-is words marks i want e = refl
+
 module _ (words marks : List ℕ) (i want w e : ℕ) where
   pub can-try-apart : agrees i want (getD words e 0) ≡ false → canTry words marks i want w e ≡ false
   unfolding canTry
@@ -94,18 +100,14 @@ module _ (slots words marks : List ℕ) (i want w : ℕ) where
   abbrev tried : List ℕ → List ℕ
   tried = tries (able words marks i want) (λ j. getD words j 0) w
 
-  tries-none : tried [] ≡ []
-  unfolding tries
-  tries-none = refl
+  tried-skip : (j : ℕ) (js : List ℕ) → canTry words marks i want w j ≡ false → tried (j ∷ js) ≡ tried js
+  unfolding canTry
+  tried-skip j js h = tries-skip (able words marks i want) (λ k. getD words k 0) w j js h
 
-  tries-skip : (j : ℕ) (js : List ℕ) → canTry words marks i want w j ≡ false → tried (j ∷ js) ≡ tried js
-  unfolding tries canTry
-  tries-skip j js h = rw h
-
-  tries-take : (j : ℕ) (js : List ℕ) → canTry words marks i want w j ≡ true
+  tried-take : (j : ℕ) (js : List ℕ) → canTry words marks i want w j ≡ true
       → tried (j ∷ js) ≡ j ∷ tries (able words marks i want) (λ k. getD words k 0) (getD words j 0) js
-  unfolding tries canTry
-  tries-take j js h = rw h
+  unfolding canTry
+  tried-take j js h = tries-take (able words marks i want) (λ k. getD words k 0) w j js h
 
   can-try-left : (j : ℕ) → canTry words marks i want w j ≡ true → isLeft marks j ≡ true
   unfolding canTry able
@@ -123,14 +125,14 @@ module _ (slots words marks : List ℕ) (i want w : ℕ) where
     pub skipped-more : k < hi → canTry words marks i want w (getD slots k 0) ≡ false → Skipped from hi (k + 1)
     skipped-more h isnt = record {
       on = omega (arith, s .on);
-      rest = s .rest ∙ ap tried (part-cons slots k hi h there) ∙ tries-skip (getD slots k 0) (part slots (k + 1) hi) isnt;
+      rest = s .rest ∙ ap tried (part-cons slots k hi h there) ∙ tried-skip (getD slots k 0) (part slots (k + 1) hi) isnt;
     }
 
     pub skipped-found : k < hi → canTry words marks i want w (getD slots k 0) ≡ true → Next slots words marks i want w from hi k
     skipped-found h is = record {
       on = s .on;
       free = λ g. can-try-left (getD slots k 0) is;
-      rest = s .rest ∙ ap tried (part-cons slots k hi h there) ∙ tries-take (getD slots k 0) (part slots (k + 1) hi) is
+      rest = s .rest ∙ ap tried (part-cons slots k hi h there) ∙ tried-take (getD slots k 0) (part slots (k + 1) hi) is
           ∙ sym (ahead-at (able words marks i want) words slots k hi h);
     }
 
@@ -138,7 +140,8 @@ module _ (slots words marks : List ℕ) (i want w : ℕ) where
     skipped-all h = record {
       on = s .on;
       free = λ g. absurd (omega arith);
-      rest = s .rest ∙ ap tried (part-none slots k hi h there) ∙ tries-none ∙ sym (ahead-none (able words marks i want) words slots k hi h);
+      rest = s .rest ∙ ap tried (part-none slots k hi h there) ∙ tries-none (able words marks i want) (λ j. getD words j 0) w
+          ∙ sym (ahead-none (able words marks i want) words slots k hi h);
     }
 
 -- ---- what is due

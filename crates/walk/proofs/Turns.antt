@@ -16,13 +16,14 @@ use Rattle.spans.specs.Walk.{walk}
 use Rattle.spans.specs.Run.{Run, two, spent, reach, run}
 use Rattle.spans.proofs.Order.{firsts}
 use Rattle.spans.proofs.Order as order
-use Rattle.spans.proofs.Runs.{run-place, run-two, run-spent}
+use Rattle.spans.proofs.Runs.{reach-two, reach-spent, run-place, run-two, run-spent}
 use Rattle.tables.specs.Prepared.{Sooner, listAt}
 use Rattle.walk.specs.Steps.{isLeft, spanAt, left, able, isDue, opened, tries, ahead, noWord, Opened, Next}
 use Rattle.walk.specs.Going.{Wants}
 use Rattle.walk.proofs.StepLaws.{opened-list}
 use Rattle.walk.proofs.Candidates.{Place, candidates, opened-below}
-use Rattle.walk.proofs.RunLaws.{fold-same, tries-in, tries-firsts, left-marked}
+use Rattle.walk.proofs.TriedLaws.{tries-in, tries-firsts}
+use Rattle.walk.proofs.RunLaws.{fold-same, left-marked}
 
 pub rising-each : {R S : ℕ → ℕ → Type 0} {js : List ℕ} → ((j k : ℕ) → R j k → S j k) → Rising R js → Rising S js
 rising-each h flat = flat
@@ -52,14 +53,14 @@ module _ (l : ℕ) (words ones twos marks : List ℕ) (i budget : ℕ) (path : L
 
   -- a run that is over stays as it is
   pub turns-two : (ws : List ℕ) (n : ℕ) (js : List ℕ) → foldl turn (two ws n) js ≡ two ws n
-  unfolding turn reach
+  unfolding turn
   turns-two ws n [] = refl
-  turns-two ws n (j ∷ js) = ap (λ r. foldl turn r js) (run-two (length words) budget ws n _) ∙ turns-two ws n js
+  turns-two ws n (j ∷ js) =
+      rw (reach-two (length words) budget ws n (path ++ (getD words j 0 ∷ [])), run-two (length words) budget ws n _) (turns-two ws n js)
 
   pub turns-spent : (js : List ℕ) → foldl turn spent js ≡ spent
-  unfolding turn reach
   turns-spent [] = refl
-  turns-spent (j ∷ js) = ap (λ r. foldl turn r js) (run-spent (length words) budget _) ∙ turns-spent js
+  turns-spent (j ∷ js) = ap (λ r. foldl turn r js) (turn-spent spent j (reach-spent (length words) budget _)) ∙ turns-spent js
 
 module _ {l i want : ℕ} {p : Option ℕ} {words ones twos starts slots marks : List ℕ} (place : Place i words ones twos starts slots marks)
     (wants : Wants l i want p) (marked : length marks ≡ length words)
@@ -120,7 +121,7 @@ module _ {l i want : ℕ} {p : Option ℕ} {words ones twos starts slots marks :
         ∙ ap (λ js. foldl placing r (firsts word last js)) (candidates place wants)
         ∙ ap (foldl placing r) (tries-firsts ok word last noWord opens (λ j h e. omega (arith, words-are j (opened-below place j h))))
         ∙ fold-same placing turning (tries ok word noWord opens) r
-        (λ s j h. turn-is s j (opened-below place j (tries-in ok word last noWord opens h)))
+        (λ s j h. turn-is s j (opened-below place j (tries-in ok word noWord opens h)))
       where
         one-less : length words - i ≡ suc (length words - (i + 1))
         one-less = omega (arith, place .inside)

@@ -20,6 +20,7 @@ use Rattle.sequence.proofs.ListLaws.{in-row}
 use Rattle.spans.specs.Walk.{walk, walked}
 use Rattle.spans.specs.Settling.{Entered, spanEntries, Means}
 use Rattle.spans.specs.Run.{Run, searching, run, comeTo}
+use Rattle.spans.proofs.WalkLaws.{walked-is}
 use Rattle.spans.proofs.Meant.{outcome-means}
 use Rattle.spans.proofs.Runs.{Keeps, keeps-one, keeps-two, run-answers, run-worded}
 use Rattle.tables.specs.Spans.{Spans}
@@ -110,13 +111,13 @@ module _ {l : ℕ} {words ones twos starts slots marks : List ℕ} (card : Spans
   whole-run : (budget : ℕ)
       → run (length words) budget (searching 0) (map (λ ws. [] ++ ws) (walk l (length words - 0) 0 none (left words ones twos marks)))
       ≡ run (length es) budget (searching 0) (walked l es)
-  unfolding walked
   whole-run budget =
       ap (run (length words) budget (searching 0)) (map-none (walk l (length words - 0) 0 none (left words ones twos marks)))
       ∙ ap (λ left-is. run (length words) budget (searching 0) (walk l (length words - 0) 0 none left-is))
       (left-all words ones twos unmarked marks-all)
       ∙ ap (λ n. run (length words) budget (searching 0) (walk l n 0 none es)) same
       ∙ ap (λ n. run n budget (searching 0) (walk l (length es) 0 none es)) (sym entries-length)
+      ∙ ap (run (length es) budget (searching 0)) (sym (walked-is l es))
     where
       same : length words - 0 ≡ length es
       same = omega (arith, entries-length)
