@@ -40,7 +40,3 @@ module _ {P : ℕ → Type 0} where
 -- No refusal has the number 0: an answer of numbers can say by 0 that nothing was refused.
 abbrev pub Numbered : List Test → Type 0
 Numbered ts = Only (λ n. 0 < n) ts
-
--- a refusal at or above the bound is another's
-abbrev pub Below : ℕ → List Test → Type 0
-Below bound ts = Only (λ n. n < bound) ts

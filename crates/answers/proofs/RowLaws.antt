@@ -67,6 +67,10 @@ module _ {A : Type 0} (f : ℕ → List A) where
   unfolding inTurn
   turns-none k = refl
 
+  pub turns-first : (k n : ℕ) → inTurn f k (suc n) ≡ f k ++ inTurn f (suc k) n
+  unfolding inTurn
+  turns-first k n = refl
+
   -- one more at the end
   pub turns-more : (k n : ℕ) → inTurn f k (suc n) ≡ inTurn f k n ++ f (k + n)
   unfolding inTurn

@@ -15,6 +15,7 @@ use Rattle.answers.specs.Answer.{Answer, given, refused, Sound, sound, Test, te
 use Rattle.answers.specs.Row.{inTurn}
 use Rattle.answers.proofs.Laws.{first-pass, first-fail, first-last, first-passed, first-holds, first-refused, first-given-any, first-refused-any}
 use Rattle.answers.proofs.Only.{Only, Numbered, none, also}
+use Rattle.answers.proofs.RowLaws.{turns-none, turns-first}
 use Rattle.block.specs.declared.check.CheckBytes.{CheckBytes}
 use Rattle.block.specs.Bytes.{AreBytes}
 use Rattle.block.specs.Check.{checkBytes, checks, checkAt}
@@ -82,10 +83,11 @@ module _ (card : List ℕ) where
       ∙ take-append-drop blockBytes (drop (blockBytes * k) card)
 
   blocks-from : (n k : ℕ) → length card ≡ blockBytes * (k + n) → inTurn (blockAt card) k n ≡ drop (blockBytes * k) card
-  unfolding inTurn
-  blocks-from zero k h = sym (drop-of-length-le card {i = blockBytes * k} (omega arith))
+  blocks-from zero k h = turns-none (blockAt card) k ∙ sym (drop-of-length-le card {i = blockBytes * k} (omega arith))
   blocks-from (suc n) k h =
-      ap (λ (xs : List ℕ). blockAt card k ++ xs) (blocks-from n (suc k) (omega arith)) ∙ block-then-rest k
+      turns-first (blockAt card) k n
+      ∙ ap (λ (xs : List ℕ). blockAt card k ++ xs) (blocks-from n (suc k) (omega arith))
+      ∙ block-then-rest k
 
   pub blocks-all : (n : ℕ) → length card ≡ blockBytes * n → inTurn (blockAt card) 0 n ≡ card
   blocks-all n h = blocks-from n 0 (omega arith)

@@ -3,39 +3,32 @@
 -- Assumes nothing.
 use mathlib.Core.Path.{_≡_, refl}
 use mathlib.Core.Logic.{⊎-elim}
-use mathlib.Core.Bool.{Bool, true, false, cond, _&&_, _||_}
-use Prim.Native.Nat.{ℕ, _+_, _-_, _<_}
+use mathlib.Core.Bool.{Bool, true, false, cond}
+use Prim.Native.Nat.{ℕ, _<_}
 use native.Mathlib.Omega.{arith}
-use lib.Dec.{leb, ltb, eqb}
-use borrow.Author.Tests.{ltb-true, leb-true, eqb-true}
+use lib.Dec.{leb, eqb}
+use borrow.Author.Tests.{leb-true, eqb-true, eqb-false}
 use Rattle.answers.proofs.Tests.{both, either}
 use Rattle.entries.specs.declared.Places.the-variants.{One, Two, Span}
-use Rattle.entries.specs.Fault.{pair, span, widest, noPlace, isPlace, pairHolds, spanHolds, placesHold}
+use Rattle.entries.specs.Fault.{pair, span, noPlace, pairHolds, spanHolds, placesHold}
 use Rattle.entries.specs.declared.Slot.{Slot}
 use Rattle.entries.specs.Entry.{placesOf, entryOf, allows}
+use Rattle.entries.proofs.Laws.{pair-says, span-says}
 
 module _ (m one two p : ℕ) where
   span-below : spanHolds m one two ≡ true → allows (Span one two) p ≡ true → p < m
-  unfolding spanHolds
-  span-below h a =
-      let in-order = both (isPlace m one && isPlace m two && leb one two) (leb (two - one + 1) widest) h .0 in
-      let places = both (isPlace m one && isPlace m two) (leb one two) in-order .0 in
-      omega (arith, ltb-true two m (both (isPlace m one) (isPlace m two) places .1), leb-true p two (both (leb one p) (leb p two) a .1))
+  span-below h a = omega (arith, span-says h .below, leb-true p two (both (leb one p) (leb p two) a .1))
 
   -- place one alone
   one-below : pairHolds m one two ≡ true → allows (One one) p ≡ true → p < m
-  unfolding pairHolds
-  one-below h a = omega (arith, ltb-true one m (both (isPlace m one) _ h .0), eqb-true p one a)
+  one-below h a = omega (arith, pair-says h .0, eqb-true p one a)
 
   -- place one, or place two
   two-below : pairHolds m one two ≡ true → eqb two noPlace ≡ false → allows (Two one two) p ≡ true → p < m
-  unfolding pairHolds
   two-below h n a =
-      let parts = both (isPlace m one) (eqb two noPlace || (ltb one two && isPlace m two)) h in
-      let rest : (eqb two noPlace || (ltb one two && isPlace m two)) ≡ true = parts .1 in
-      let second : (ltb one two && isPlace m two) ≡ true = rw n at rest in
-      ⊎-elim (λ e. omega (arith, ltb-true one m (parts .0), eqb-true p one e))
-      (λ e. omega (arith, ltb-true two m (both (ltb one two) (isPlace m two) second .1), eqb-true p two e))
+      let says = pair-says h in
+      let second : two < m = ⊎-elim (λ e. absurd (eqb-false two noPlace n e)) (λ s. s .1) (says .1) in
+      ⊎-elim (λ e. omega (arith, says .0, eqb-true p one e)) (λ e. omega (arith, second, eqb-true p two e))
       (either (eqb p one) (eqb p two) a)
 
 -- "A place p satisfies 0 ≤ p ≤ m−1"
@@ -50,6 +43,16 @@ allowed-below kind m one two p = go (eqb kind span) (eqb two noPlace) refl
     go true n e h a = span-below m one two p h a
     go false true e h a = one-below m one two p h a
     go false false e h a = two-below m one two p h e a
+
+-- the entry of a slot, on a card of either kind
+module _ (kind : ℕ) (s : Slot) where
+  pub entry-word : entryOf kind s .word ≡ s .word
+  unfolding entryOf
+  entry-word = refl
+
+  pub entry-places : entryOf kind s .places ≡ placesOf kind (s .one) (s .two)
+  unfolding entryOf
+  entry-places = refl
 
 -- an entry of a span card
 pub span-entry : (s : Slot) → entryOf span s ≡ record { word = s .word; places = Span (s .one) (s .two) }

@@ -1,10 +1,13 @@
--- The scope's edges of the numbers ("Edges of the numbers"), from the definitions, on cards of 10 entries. Assumes nothing.
+-- The scope's edges of the numbers ("Edges of the numbers"), from the definitions, on cards of 10 entries; and how many words
+-- there are. Assumes nothing.
 use mathlib.Core.Path.{_≡_, refl}
 use mathlib.Core.Bool.{true, false}
-use Prim.Native.Nat.{ℕ, _≤_}
+use mathlib.Core.List.{[], _∷_}
+use Prim.Native.Nat.{ℕ, _^_, _≤_}
 use borrow.Author.Tests.{le-ltb}
 use Rattle.answers.specs.Numbers.{Word, Places}
 use Rattle.answers.specs.Answer.{given, refused, sound, first}
+use Rattle.answers.specs.Row.{row}
 use Rattle.entries.specs.declared.Places.the-variants.{One, Two, Span}
 use Rattle.entries.specs.Fault.{pair, span, noPlace, isPlace, pairHolds, spanHolds, placesHold, entryTests}
 use Rattle.entries.specs.Entry.{placesOf}
@@ -78,3 +81,9 @@ first-and-third = refl
 pub span-of-one : placesOf span 2 2 ≡ Span 2 2
 unfolding placesOf
 span-of-one = refl
+
+-- how many words have 0 to 12 letters
+pub powers-of-four : row (λ (i : ℕ). 4 ^ i) 0 13
+    ≡ 1 ∷ 4 ∷ 16 ∷ 64 ∷ 256 ∷ 1024 ∷ 4096 ∷ 16384 ∷ 65536 ∷ 262144 ∷ 1048576 ∷ 4194304 ∷ 16777216 ∷ []
+unfolding row
+powers-of-four = refl

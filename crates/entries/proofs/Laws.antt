@@ -1,17 +1,19 @@
 -- The laws of an entry's faults and places that this crate's proofs and the crates above cite. No contract cites this file.
 -- Assumes nothing.
 use mathlib.Core.Path.{_≡_, _∙_}
-use mathlib.Core.Bool.{true, false, _&&_, and-false}
+use mathlib.Core.Logic.{_⊎_, inl, inr, ⊎-elim}
+use mathlib.Core.Bool.{true, false, _&&_, _||_, and-false}
 use mathlib.Core.List.{[], _∷_}
-use Prim.Native.Nat.{ℕ, _-_, _^_, _≤_, _<_}
+use Prim.Native.Nat.{ℕ, _+_, _-_, _^_, _≤_, _<_}
 use native.Mathlib.Numerals.{add-one}
 use native.Mathlib.Omega.{arith}
-use lib.Dec.{ltb}
-use borrow.Author.Tests.{lt-ltb, le-ltb, le-leb, lt-leb, ltb-true, eq-eqb, ne-eqb}
+use lib.Dec.{leb, ltb, eqb}
+use borrow.Author.Tests.{lt-ltb, le-ltb, le-leb, lt-leb, ltb-true, leb-true, eqb-true, eq-eqb, ne-eqb}
 use Rattle.answers.specs.Numbers.{Word, Places}
 use Rattle.answers.specs.Answer.{given, refused, sound, test, first}
 use Rattle.answers.proofs.Laws.{first-pass, first-fail, first-last, first-passed}
 use Rattle.answers.proofs.Only.{Only, none, also}
+use Rattle.answers.proofs.Tests.{both, either}
 use Rattle.entries.specs.declared.Format.{Format}
 use Rattle.entries.specs.declared.Slot.{Slot}
 use Rattle.entries.specs.declared.Places.the-variants.{One, Two, Span}
@@ -53,6 +55,36 @@ module _ (m one two : ℕ) where
   span-width h there =
       let o : isPlace m one ≡ true = lt-ltb one m (omega (arith, ltb-true two m there)) in
       rw (o, there, le-leb one two h, add-one)
+
+-- ---- what places that hold say
+
+-- those of a pair card: no second place, or a later one
+pub pair-says : {m one two : ℕ} → pairHolds m one two ≡ true → (one < m) × ((two ≡ noPlace) ⊎ ((one < two) × (two < m)))
+unfolding pairHolds
+pair-says {m} {one} {two} h =
+    let parts = both (isPlace m one) (eqb two noPlace || (ltb one two && isPlace m two)) h in (
+      ltb-true one m (parts .0),
+      ⊎-elim (λ e. inl (eqb-true two noPlace e))
+          (λ e. let b = both (ltb one two) (isPlace m two) e in inr (ltb-true one two (b .0), ltb-true two m (b .1)))
+          (either (eqb two noPlace) (ltb one two && isPlace m two) (parts .1)),
+    )
+
+-- those of a span card
+pub record SpanSays (m one two : ℕ) : Type 0 where
+  pub in-order : one ≤ two
+  pub below : two < m
+  pub narrow : two - one + 1 ≤ widest
+
+pub span-says : {m one two : ℕ} → spanHolds m one two ≡ true → SpanSays m one two
+unfolding spanHolds
+span-says {m} {one} {two} h =
+    let all = both (isPlace m one && isPlace m two && leb one two) (leb (two - one + 1) widest) h in
+    let three = both (isPlace m one && isPlace m two) (leb one two) (all .0) in
+    record {
+      in-order = leb-true one two (three .1);
+      below = ltb-true two m (both (isPlace m one) (isPlace m two) (three .0) .1);
+      narrow = leb-true (two - one + 1) widest (all .1);
+    }
 
 -- ---- by the kind
 

@@ -81,7 +81,16 @@ slot-again l j bytes h =
     ∙ four-again l at bytes (omega arith)
 
 -- an entry of three lists
-pub slot-from : (words ones twos : List ℕ) (e : ℕ)
-    → slotFrom words ones twos e ≡ record { word = getD words e 0; one = getD ones e 0; two = getD twos e 0 }
-unfolding slotFrom
-slot-from words ones twos e = refl
+module _ (words ones twos : List ℕ) (e : ℕ) where
+  pub slot-from : slotFrom words ones twos e ≡ record { word = getD words e 0; one = getD ones e 0; two = getD twos e 0 }
+  unfolding slotFrom
+  slot-from = refl
+
+  pub word-from : slotFrom words ones twos e .word ≡ getD words e 0
+  word-from = ap (λ (s : Slot). s .word) slot-from
+
+  pub one-from : slotFrom words ones twos e .one ≡ getD ones e 0
+  one-from = ap (λ (s : Slot). s .one) slot-from
+
+  pub two-from : slotFrom words ones twos e .two ≡ getD twos e 0
+  two-from = ap (λ (s : Slot). s .two) slot-from

@@ -6,11 +6,12 @@ use native.Mathlib.Omega.{arith}
 use lib.ListN.{length, take, drop, length-append, length-drop, drop-of-length-le, take-append-drop}
 use lib.Seq.{take-all, take-at, drop-at, drop-drop, append-snoc}
 use Rattle.answers.specs.Row.{inTurn}
+use Rattle.answers.proofs.RowLaws.{turns-none, turns-first, turns-same}
 use Rattle.fasta.specs.Record.{newline, lineLetters, lineOf, linesFor, inLines}
 
 pub lines-none : inLines [] ≡ []
-unfolding inLines inTurn
-lines-none = refl
+unfolding inLines
+lines-none = turns-none (lineOf []) 0
 
 -- line i + 1 is line i of the letters after the first line
 line-after : (ls : List ℕ) (i : ℕ) → lineOf ls (suc i) ≡ lineOf (drop lineLetters ls) i
@@ -19,21 +20,23 @@ line-after ls i =
     ap (λ (xs : List ℕ). take lineLetters xs ++ (newline ∷ []))
     (ap (λ (k : ℕ). drop k ls) further ∙ sym (drop-drop (lineLetters * i) lineLetters ls))
 
-lines-after : (ls : List ℕ) (i n : ℕ) → inTurn (lineOf ls) (suc i) n ≡ inTurn (lineOf (drop lineLetters ls)) i n
-unfolding inTurn
-lines-after ls i zero = refl
-lines-after ls i (suc n) =
-    ap (λ (xs : List ℕ). xs ++ inTurn (lineOf ls) (suc (suc i)) n) (line-after ls i)
-    ∙ ap (λ (xs : List ℕ). lineOf (drop lineLetters ls) i ++ xs) (lines-after ls (suc i) n)
+lines-after : (ls : List ℕ) (n : ℕ) → inTurn (lineOf ls) 1 n ≡ inTurn (lineOf (drop lineLetters ls)) 0 n
+lines-after ls n =
+    turns-same (lineOf ls) (lineOf (drop lineLetters ls)) 1 0 n (λ i h.
+    let next : 1 + i ≡ suc i = omega arith in
+    let here : 0 + i ≡ i = omega arith in
+    rw (next, here) (line-after ls i))
 
 pub lines-more : (ls : List ℕ) → 0 < length ls → inLines ls ≡ take lineLetters ls ++ (newline ∷ inLines (drop lineLetters ls))
-unfolding inLines inTurn
+unfolding inLines
 lines-more ls h =
-    let count : linesFor (length ls) ≡ suc (linesFor (length (drop lineLetters ls))) = omega (arith, length-drop lineLetters ls) in
+    let n : ℕ = linesFor (length (drop lineLetters ls)) in
+    let count : linesFor (length ls) ≡ suc n = omega (arith, length-drop lineLetters ls) in
     let none : lineLetters * 0 ≡ 0 = omega arith in
-    ap (λ (n : ℕ). inTurn (lineOf ls) 0 n) count
-    ∙ ap (λ (xs : List ℕ). lineOf ls 0 ++ xs) (lines-after ls 0 (linesFor (length (drop lineLetters ls))))
-    ∙ rw none (append-snoc (take lineLetters ls) newline (inTurn (lineOf (drop lineLetters ls)) 0 (linesFor (length (drop lineLetters ls)))))
+    ap (λ (k : ℕ). inTurn (lineOf ls) 0 k) count
+    ∙ turns-first (lineOf ls) 0 n
+    ∙ ap (λ (xs : List ℕ). lineOf ls 0 ++ xs) (lines-after ls n)
+    ∙ rw none (append-snoc (take lineLetters ls) newline (inTurn (lineOf (drop lineLetters ls)) 0 n))
 
 -- a line, and what follows it: it is full, or nothing does
 pub data Cut (xs ys : List ℕ) : Type 0 where

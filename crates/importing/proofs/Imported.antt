@@ -10,7 +10,7 @@ use Rattle.answers.proofs.Laws.{first-both, first-given-any}
 use Rattle.entries.specs.declared.Entry.{Entry}
 use Rattle.entries.specs.declared.Format.{Format}
 use Rattle.entries.specs.Fault.{pair, span, leastLength, mostLength}
-use Rattle.entries.specs.Entry.{entryOf}
+use Rattle.entries.proofs.Allowed.{entry-word}
 use Rattle.sequence.specs.Build.{lettersOf}
 use Rattle.layout.specs.Bounds.{leastEntries}
 use Rattle.layout.specs.Layout.{toldBy, entryAt}
@@ -95,11 +95,12 @@ module _ {limit : ℕ} {text before after : List ℕ} {r : Written} {n : ℕ}
 
   -- entry e has the word of line e, letter by letter
   pub same-words : (e : ℕ) → e < length (linesOf text) → lettersOf (toldBy (take n after) .l) (entryAt (take n after) e .word) ≡ lineIn text e .word
-  unfolding entryOf slotFor
+  unfolding slotFor
   same-words e h =
+      let word = ap (λ (x : Entry). x .word) (entry-in text e h) ∙ entry-word (kindIn text) (slotFor (kindIn text) (lineIn text e)) in
       ap (λ (l : ℕ). lettersOf l (entryAt (take n after) e .word)) (sym (same-letters e h))
       ∙ ap (λ (c : List ℕ). lettersOf (lineLetters (lineIn text e)) (entryAt c e .word)) imported-card
-      ∙ ap (λ (x : Entry). lettersOf (lineLetters (lineIn text e)) (x .word)) (entry-in text e h)
+      ∙ ap (λ (w : ℕ). lettersOf (lineLetters (lineIn text e)) w) word
       ∙ letters-value (lineIn text e .word) (own-line text imported-sound e h .fine .codes)
 
   -- ---- its length

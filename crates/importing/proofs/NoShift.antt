@@ -6,7 +6,9 @@ use Prim.Native.Nat.{ℕ, _+_, _<_}
 use lib.ListN.{length, take}
 use Rattle.answers.specs.Answer.{given}
 use Rattle.entries.specs.declared.Entry.{Entry}
-use Rattle.entries.specs.Entry.{allows, entryOf}
+use Rattle.entries.specs.declared.Places.{Places}
+use Rattle.entries.specs.Entry.{allows}
+use Rattle.entries.proofs.Allowed.{entry-places}
 use Rattle.layout.specs.Layout.{entryAt}
 use Rattle.writer.specs.declared.Written.{Written}
 use Rattle.writer.specs.Writing.{saysWritten}
@@ -22,10 +24,11 @@ use Rattle.importing.proofs.Imported.{imported-sound, imported-card}
 module _ (text : List ℕ) {s : Outline} (holds : scanning text ≡ given s) where
   pub sound-no-shift : (e : ℕ) → e < length (linesOf text) → (q : ℕ)
       → allows (entryAt (cardIn text) e .places) q ≡ lists (lineIn text e .listed) (q + 1)
-  unfolding entryOf slotFor
+  unfolding slotFor
   sound-no-shift e h q =
       let own = own-line text holds e h in
       ap (λ (x : Entry). allows (x .places) q) (entry-in text e h)
+      ∙ ap (λ (ps : Places). allows ps q) (entry-places (kindIn text) (slotFor (kindIn text) (lineIn text e)))
       ∙ entry-no-shift (kindIn text) (lineIn text e .listed) (own .fine .small) (own .no-zero) (own .mark) q
 
 -- "each listed place p means card place p−1"

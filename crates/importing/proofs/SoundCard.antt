@@ -9,6 +9,7 @@ use Rattle.answers.specs.Answer.{given}
 use Rattle.entries.specs.declared.Slot.{Slot}
 use Rattle.entries.specs.Slot.{slotFrom}
 use Rattle.entries.specs.Entry.{entryOf}
+use Rattle.entries.proofs.SlotLaws.{slot-from}
 use Rattle.layout.specs.Layout.{toldBy, slotOf, entryAt}
 use Rattle.layout.proofs.CardLaws.{card-slot}
 use Rattle.layout.proofs.LaidLaws.{card-told}
@@ -44,12 +45,12 @@ module _ (text : List ℕ) where
 
     -- as it is stored
     pub lists-slot : slotFrom (wordsIn text) (onesIn text) (twosIn text) e ≡ slotFor (kindIn text) (lineIn text e)
-    unfolding slotFrom slotFor
+    unfolding slotFor
     lists-slot =
         let word = number-at (λ x. valueOf (x .word)) in
         let one = number-at (λ x. oneOf (x .listed)) in
         let two = number-at (λ x. twoOf (kindIn text) (x .listed)) in
-        λ i. record { word = word i; one = one i; two = two i }
+        slot-from (wordsIn text) (onesIn text) (twosIn text) e ∙ (λ i. record { word = word i; one = one i; two = two i })
 
     pub slot-in : slotOf (cardIn text) e ≡ slotFor (kindIn text) (lineIn text e)
     unfolding cardIn

@@ -8,6 +8,7 @@ use native.Mathlib.Omega.{arith}
 use lib.ListN.{length, getD, take, drop}
 use lib.Dec.{eqb, leb}
 use borrow.Author.Tests.{eqb-true, eq-eqb, leb-true, leb-false}
+use Rattle.entries.proofs.Laws.{span-says}
 use Rattle.sequence.specs.Lists.{In}
 use Rattle.sequence.proofs.FillingLaws.{same-or-not}
 use Rattle.memory.specs.Memory.{Below}
@@ -17,7 +18,6 @@ use Rattle.walk.proofs.Candidates.{sooner-apart}
 use Rattle.walk.proofs.PlaceLaws.{list-lent, list-below}
 use Rattle.walk.proofs.SpanLaws.{spans-rise}
 use Rattle.walk.proofs.Turns.{rising-each}
-use Rattle.tables.proofs.PreparedLaws.{span-says}
 use Rattle.layering.specs.Digits.{Apart, Spread, MarkedWith, Filled}
 use Rattle.layering.specs.States.{Laid, Sides}
 use Rattle.layering.proofs.StateLaws.{list-long}

@@ -9,7 +9,6 @@ use lib.ListN.{length, getD, take, drop, replicate, length-take, length-drop}
 use lib.Dec.{eqb}
 use borrow.Author.Tests.{eqb-true}
 use Rattle.answers.specs.Answer.{given, sound, first}
-use Rattle.answers.specs.Row.{inTurn}
 use Rattle.answers.proofs.RowLaws.{turns-same}
 use Rattle.answers.proofs.Tests.{both}
 use Rattle.block.specs.Bytes.{AreBytes}
@@ -25,7 +24,7 @@ use Rattle.layout.specs.Layout.{formOf, formatOf, toldBy, perBlock, entr
 use Rattle.layout.specs.Card.{headBytes, slotsBytes, ownBytes, blocksOf, cardOf}
 use Rattle.layout.proofs.ZerosLaws.{are-zeros}
 use Rattle.layout.proofs.LaidLaws.{Laid}
-use Rattle.layout.proofs.CardLaws.{length-head, length-slots, slots-same, own-head, own-later}
+use Rattle.layout.proofs.CardLaws.{length-head, length-slots, slots-none, slots-first, slots-same, own-head, own-later}
 
 -- zeros up to the index
 spare-zeros : (b : List ℕ) (n : ℕ) → length b ≡ blockBytes → isZeros (drop n (take indexAt b)) ≡ true
@@ -59,8 +58,7 @@ module _ (b : List ℕ) (k : ℕ) (whole : length b ≡ blockBytes) (held : firs
   -- the slots of a later block are its first bytes
   slots-stand : (n j : ℕ) → entryBytes * (j + n) ≤ length b
       → slotsBytes (slotAt b) j n ++ drop (entryBytes * (j + n)) b ≡ drop (entryBytes * j) b
-  unfolding slotsBytes inTurn
-  slots-stand zero j h = let z : j + 0 ≡ j = omega arith in rw z
+  slots-stand zero j h = let z : j + 0 ≡ j = omega arith in rw (slots-none (slotAt b) j, z)
   slots-stand (suc n) j h =
       let ends : j + suc n ≡ suc j + n = omega arith in
       let next : entryBytes * suc j ≡ entryBytes * j + entryBytes = omega arith in
@@ -68,7 +66,8 @@ module _ (b : List ℕ) (k : ℕ) (whole : length b ≡ blockBytes) (held : firs
       let rest = slotsBytes (slotAt b) (suc j) n in
       let later : rest ++ drop (entryBytes * (j + suc n)) b ≡ drop (entryBytes * j + entryBytes) b =
       rw (ends, ← next) (slots-stand n (suc j) (omega arith)) in
-      append-assoc slot rest (drop (entryBytes * (j + suc n)) b)
+      ap (λ (xs : List ℕ). xs ++ drop (entryBytes * (j + suc n)) b) (slots-first (slotAt b) j n)
+      ∙ append-assoc slot rest (drop (entryBytes * (j + suc n)) b)
       ∙ ap (λ (xs : List ℕ). slot ++ xs) later
       ∙ slot-again b j bytes (omega arith)
 

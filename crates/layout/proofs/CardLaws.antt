@@ -8,7 +8,7 @@ use native.Mathlib.Omega.{arith}
 use lib.ListN.{length, getD, take, drop, set}
 use lib.Seq.{take-at, drop-at}
 use Rattle.answers.specs.Row.{inTurn}
-use Rattle.answers.proofs.RowLaws.{length-turns, turns-none, turns-more, turns-at, turns-same}
+use Rattle.answers.proofs.RowLaws.{length-turns, turns-none, turns-first, turns-more, turns-at, turns-same}
 use Rattle.block.specs.Bytes.{twoBytes, putAt}
 use Rattle.block.specs.Block.{blockBytes, blockAt, indexAt}
 use Rattle.block.specs.Sealing.{sealed}
@@ -38,6 +38,10 @@ length-slots slots e n = length-turns (λ i. slotBytes (slots i)) entryBytes (λ
 pub slots-none : (slots : ℕ → Slot) (e : ℕ) → slotsBytes slots e 0 ≡ []
 unfolding slotsBytes
 slots-none slots e = turns-none (λ i. slotBytes (slots i)) e
+
+pub slots-first : (slots : ℕ → Slot) (e n : ℕ) → slotsBytes slots e (suc n) ≡ slotBytes (slots e) ++ slotsBytes slots (suc e) n
+unfolding slotsBytes
+slots-first slots e n = turns-first (λ i. slotBytes (slots i)) e n
 
 -- one more slot
 pub slots-more : (slots : ℕ → Slot) (e n : ℕ) → slotsBytes slots e (n + 1) ≡ slotsBytes slots e n ++ slotBytes (slots (e + n))

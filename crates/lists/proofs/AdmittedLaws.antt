@@ -10,6 +10,7 @@ use Rattle.answers.proofs.RowLaws.{length-row, row-at}
 use Rattle.entries.specs.declared.Format.{Format}
 use Rattle.entries.specs.Fault.{entryTests}
 use Rattle.entries.specs.Slot.{slotFrom}
+use Rattle.entries.proofs.SlotLaws.{slot-from}
 use Rattle.layout.specs.Layout.{toldBy, sizeOf, slotOf}
 use Rattle.card.specs.Fetching.{admission}
 use Rattle.card.proofs.FetchingLaws.{admission-admits}
@@ -43,13 +44,12 @@ module _ (limit : ℕ) (card : List ℕ) {f : Format} (admitted : admission limi
   format-same = λ i. record { kind = f .kind; l = f .l; m = length-its i }
 
   pub slot-same : (e : ℕ) → e < f .m → slotFrom itsWords itsOnes itsTwos e ≡ slotOf card e
-  unfolding slotFrom
   slot-same e h =
       let here : 0 + e ≡ e = omega arith in
       let word = row-at (λ i. slotOf card i .word) 0 0 (f .m) e h ∙ ap (λ (i : ℕ). slotOf card i .word) here in
       let one = row-at (λ i. slotOf card i .one) 0 0 (f .m) e h ∙ ap (λ (i : ℕ). slotOf card i .one) here in
       let two = row-at (λ i. slotOf card i .two) 0 0 (f .m) e h ∙ ap (λ (i : ℕ). slotOf card i .two) here in
-      λ i. record { word = word i; one = one i; two = two i }
+      slot-from itsWords itsOnes itsTwos e ∙ (λ i. record { word = word i; one = one i; two = two i })
 
   -- are accepted
   pub its-accepted : Accepted limit (f .kind) (f .l) itsWords itsOnes itsTwos

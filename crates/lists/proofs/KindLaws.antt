@@ -13,6 +13,7 @@ use Rattle.answers.specs.Answer.{given, sound, first}
 use Rattle.entries.specs.Slot.{slotFrom}
 use Rattle.entries.specs.Fault.{leastLength, mostLength, pair, span, pairHolds, spanHolds, placesHold}
 use Rattle.entries.proofs.Laws.{pair-holds, span-holds, sound-has}
+use Rattle.entries.proofs.SlotLaws.{slot-from}
 use Rattle.layout.specs.Bounds.{leastEntries}
 use Rattle.layout.proofs.Laws.{within-both}
 use Rattle.lists.specs.Lists.{formatFor, listsTests, Accepted}
@@ -39,11 +40,13 @@ module _ {limit l : ℕ} {words ones twos : List ℕ} where
   lists-kind : (kind : ℕ) {holds : ℕ → ℕ → ℕ → Bool} → ((m one two : ℕ) → holds m one two ≡ placesHold kind m one two)
       → first (listsTests limit kind l words ones twos) sound ≡ given sound
       → KindLists holds limit l words ones twos
-  unfolding slotFrom
   lists-kind kind by-kind accepted =
       let has : Accepted limit kind l words ones twos = lists-accepted accepted in
       let letters = within-both leastLength mostLength l (has .letters) in
       let count = within-both leastEntries limit (length words) (has .count) in
+      let each : (e : ℕ) → e < length words
+      → (getD words e 0 < 4 ^ l) × (placesHold kind (length words) (getD ones e 0) (getD twos e 0) ≡ true) =
+      λ e h. rw (slot-from words ones twos e) at (sound-has (formatFor kind l words) e (slotFrom words ones twos e) (has .entries e h)) in
       record {
         least = letters .0;
         most = letters .1;
@@ -51,10 +54,8 @@ module _ {limit l : ℕ} {words ones twos : List ℕ} where
         within = count .1;
         as-ones = sym (has .as-ones);
         as-twos = sym (has .as-twos);
-        word-fits = λ e h. sound-has (formatFor kind l words) e (slotFrom words ones twos e) (has .entries e h) .0;
-        places-fit = λ e h.
-            by-kind (length words) (getD ones e 0) (getD twos e 0)
-            ∙ sound-has (formatFor kind l words) e (slotFrom words ones twos e) (has .entries e h) .1;
+        word-fits = λ e h. each e h .0;
+        places-fit = λ e h. by-kind (length words) (getD ones e 0) (getD twos e 0) ∙ each e h .1;
       }
 
   pub lists-span : first (listsTests limit span l words ones twos) sound ≡ given sound → SpanLists limit l words ones twos

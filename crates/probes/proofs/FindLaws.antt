@@ -2,7 +2,7 @@
 use mathlib.Core.Path.{_≡_, refl, ap, _∙_}
 use mathlib.Core.Bool.{Bool, true, false, cond}
 use mathlib.Core.List.{List, [], _∷_, _++_}
-use Prim.Native.Nat.{ℕ, suc, _+_, _≤_}
+use Prim.Native.Nat.{ℕ, suc, _+_}
 use native.Mathlib.Omega.{arith}
 use lib.ListN.{length, length-append}
 use lib.Dec.{eqb}
@@ -22,19 +22,6 @@ module _ (b : ℕ) where
   at-later : (x : ℕ) (xs : List ℕ) → (x ≡ b → ⊥) → firstAt b (x ∷ xs) ≡ suc (firstAt b xs)
   unfolding firstAt
   at-later x xs n = rw (ne-eqb x b n)
-
-  at-empty : firstAt b [] ≡ 0
-  unfolding firstAt
-  at-empty = refl
-
-  pub at-most : (xs : List ℕ) → firstAt b xs ≤ length xs
-  unfolding firstAt
-  at-most [] = omega arith
-  at-most (x ∷ xs) = go (at-most xs) (eqb x b)
-    where
-      go : firstAt b xs ≤ length xs → (t : Bool) → cond t 0 (suc (firstAt b xs)) ≤ suc (length xs)
-      go h true = omega arith
-      go h false = omega arith
 
   -- what stands after bytes that have no b
   pub at-after : (xs ys : List ℕ) → firstAt b xs ≡ length xs → firstAt b (xs ++ ys) ≡ length xs + firstAt b ys

@@ -8,6 +8,7 @@ use borrow.Author.Tests.{leb-true, le-leb, lt-leb, leb-false, eq-eqb, ne-eqb, eq
 use Rattle.answers.proofs.Tests.{both}
 use Rattle.entries.specs.Fault.{pair, span, noPlace}
 use Rattle.entries.specs.Entry.{allows, placesOf}
+use Rattle.entries.proofs.Laws.{span-places, one-place, two-places}
 use Rattle.probes.specs.declared.line.Marked.{Marked}
 use Rattle.probes.specs.declared.line.Marked.the-variants.{Bare, Two, Run}
 use Rattle.probes.specs.Line.{mostNumber, isSmall, lists}
@@ -57,16 +58,13 @@ module _ (p q : ℕ) (some : 0 < p) where
 -- ---- the places of an entry
 
 places-span : (one two : ℕ) (kind q : ℕ) → kind ≡ span → allows (placesOf kind one two) q ≡ (leb one q && leb q two)
-unfolding placesOf
-places-span one two kind q e = rw (eq-eqb kind span e)
+places-span one two kind q e = rw (← span-places kind one two e) refl
 
 places-one : (one : ℕ) (kind q : ℕ) → (kind ≡ span → ⊥) → allows (placesOf kind one noPlace) q ≡ eqb q one
-unfolding placesOf
-places-one one kind q n = rw (ne-eqb kind span n)
+places-one one kind q n = rw (← one-place kind one noPlace n refl) refl
 
 places-two : (one two : ℕ) (kind q : ℕ) → (kind ≡ span → ⊥) → (two ≡ noPlace → ⊥) → allows (placesOf kind one two) q ≡ (eqb q one || eqb q two)
-unfolding placesOf
-places-two one two kind q n m = rw (ne-eqb kind span n, ne-eqb two noPlace m)
+places-two one two kind q n m = rw (← two-places kind one two n m) refl
 
 -- neither is 0
 pub some-both : (p q : ℕ) → (eqb p 0 || eqb q 0) ≡ false → (0 < p) × (0 < q)

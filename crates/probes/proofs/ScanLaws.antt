@@ -7,11 +7,11 @@ use native.Mathlib.Numerals.{add-one}
 use native.Mathlib.Omega.{arith}
 use lib.ListN.{length, getD, take, drop, length-drop, length-map, List·getD-map}
 use lib.Seq.{take-suc, take-all}
-use borrow.Author.Tests.{lt-ltb}
+use borrow.Author.Tests.{lt-ltb, le-ltb}
 use Rattle.answers.specs.Numbers.{Text}
 use Rattle.answers.specs.Answer.{given, refused, first, sound}
 use Rattle.answers.specs.Row.{inTurn}
-use Rattle.answers.proofs.Laws.{first-pass, first-value, first-refused-any, first-given-any, turn-holds, turn-refused, turns-end}
+use Rattle.answers.proofs.Laws.{first-pass, first-fail, first-value, first-refused-any, first-given-any, turn-holds, turn-refused, turns-end}
 use Rattle.probes.specs.declared.line.Marked.{Marked}
 use Rattle.probes.specs.declared.scanning.Outline.{Outline}
 use Rattle.probes.specs.Line.{Line}
@@ -34,8 +34,8 @@ pub record SoFar (text : List ℕ) (s : Outline) (at : ℕ) : Type 0 where
 
 module _ (text : List ℕ) where
   pub scan-empty : length text ≡ 0 → refused Text 1 ≡ scanning text
-  unfolding textTests first
-  scan-empty e = rw e refl
+  unfolding textTests
+  scan-empty e = sym (first-fail _ _ _ _ _ (le-ltb 0 (length text) (omega arith)))
 
   pub scan-start : (length text ≡ 0 → ⊥) → SoFar text (record { mark = 0; l = 0; m = 0 }) 0
   unfolding textTests known

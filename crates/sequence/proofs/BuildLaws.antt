@@ -1,6 +1,6 @@
--- Laws of arrangements and builds: an entry has the word of its slot, an arrangement has all the entries, its words are a chain and those
+-- Laws of arrangements and builds: the words of entries have l letters, an arrangement has all the entries, its words are a chain and those
 -- that it spells, a build has m+l−1 letters, and the l letters from each place on are those of a word. Assumes nothing.
-use mathlib.Core.Path.{_≡_, refl, sym, ap, _∙_}
+use mathlib.Core.Path.{_≡_, sym, ap, _∙_}
 use mathlib.Core.List.{List, map}
 use Prim.Native.Nat.{ℕ, _+_, _^_, _<_}
 use native.Mathlib.Omega.{arith}
@@ -8,6 +8,7 @@ use lib.ListN.{length, getD, take, drop, length-map}
 use Rattle.entries.specs.declared.Slot.{Slot}
 use Rattle.entries.specs.declared.Entry.{Entry}
 use Rattle.entries.specs.Entry.{entryOf}
+use Rattle.entries.proofs.Allowed.{entry-word}
 use Rattle.sequence.specs.Lists.{In}
 use Rattle.sequence.specs.Arrangement.{Arrangement, words}
 use Rattle.sequence.specs.Build.{lettersOf, spell, Build, Worded}
@@ -15,13 +16,7 @@ use Rattle.sequence.proofs.ListLaws.{in-map}
 use Rattle.sequence.proofs.ReorderedLaws.{reordered-length, reordered-in}
 use Rattle.sequence.proofs.SpellingLaws.{Chained, standing-chain, spell-one, spell-length, spell-window}
 
--- ---- the entries that slots stand for, on a card of either kind
-
-pub entry-word : (kind : ℕ) (s : Slot) → entryOf kind s .word ≡ s .word
-unfolding entryOf
-entry-word kind s = refl
-
--- their words have l letters where those of the slots do
+-- the words of the entries that slots stand for have l letters where those of the slots do
 pub entries-fit : (l kind : ℕ) (es : List Slot) → ((s : Slot) → In s es → s .word < 4 ^ l) → (e : Entry) → In e (map (entryOf kind) es)
     → e .word < 4 ^ l
 entries-fit l kind es fits e h =

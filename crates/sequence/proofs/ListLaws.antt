@@ -9,6 +9,7 @@ use native.Mathlib.Decide.{ℕ-discrete}
 use lib.ListN.{length}
 use lib.Dec.{T}
 use Rattle.answers.specs.Row.{row}
+use Rattle.answers.proofs.RowLaws.{row-none, row-first}
 use Rattle.sequence.specs.Lists.{In, first, later, Taken, here, there, Paired, nobody, pair, Rising, flat, rises, Choice, choice, choices, keep}
 
 module _ {A : Type 0} where
@@ -204,17 +205,17 @@ module _ {A B : Type 0} where
 
 -- a member is one of the parts
 pub in-row : {A : Type 0} (f : ℕ → A) (k n : ℕ) {x : A} → In x (row f k n) → (i : ℕ) × (i < k + n) × (x ≡ f i)
-unfolding row
-in-row f k zero h = absurd (not-in-nil h)
-in-row f k (suc n) first = (k, omega arith, refl)
-in-row f k (suc n) (later h) = let s = in-row f (suc k) n h in (s .0, omega (arith, s .1), s .2)
+in-row f k zero h = absurd (not-in-nil (rw (row-none f k) at h))
+in-row f k (suc n) h =
+    ⊎-elim (λ e. (k, omega arith, e)) (λ g. let s = in-row f (suc k) n g in (s .0, omega (arith, s .1), s .2))
+    (in-cons (rw (row-first f k n) at h))
 
 -- and each part is a member
 pub row-in : {A : Type 0} (f : ℕ → A) (k n i : ℕ) → k ≤ i → i < k + n → In (f i) (row f k n)
-unfolding row
 row-in f k zero i low high = absurd (omega arith)
 row-in f k (suc n) i low high =
-    by-cases (ℕ-discrete i k) (λ e. rw e first) (λ d. later (row-in f (suc k) n i (omega (arith, d)) (omega arith)))
+    rw (row-first f k n)
+    (by-cases (ℕ-discrete i k) (λ e. rw e first) (λ d. later (row-in f (suc k) n i (omega (arith, d)) (omega arith))))
 
 -- ---- choices
 

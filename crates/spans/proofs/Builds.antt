@@ -12,7 +12,7 @@ use lib.Dec.{eqb, leb, eqb→eq, eqb-refl, leb→le, le→leb}
 use Rattle.entries.specs.declared.Slot.{Slot}
 use Rattle.entries.specs.Entry.{entryOf, allows}
 use Rattle.entries.specs.Fault.{span}
-use Rattle.entries.proofs.Allowed.{span-entry}
+use Rattle.entries.proofs.Allowed.{span-entry, entry-word}
 use Rattle.sequence.specs.Lists.{In, Reordered, empty, next, Rising}
 use Rattle.sequence.specs.Arrangement.{Standing, nobody, stands, words}
 use Rattle.sequence.specs.Build.{spell, Build, Worded}
@@ -20,7 +20,7 @@ use Rattle.sequence.specs.Verdict.{Before}
 use Rattle.sequence.proofs.TestLaws.{is-true, true-is, and-both, both-and}
 use Rattle.sequence.proofs.ListLaws.{not-in-nil, in-cons, in-keep, keep-in, rising-keep, length-taken}
 use Rattle.sequence.proofs.ReorderedLaws.{reordered-map, map-reordered, reordered-length}
-use Rattle.sequence.proofs.BuildLaws.{entry-word, worded-build}
+use Rattle.sequence.proofs.BuildLaws.{worded-build}
 use Rattle.spans.specs.Walk.{walked, builds}
 use Rattle.spans.specs.Settling.{spanEntries}
 use Rattle.spans.proofs.Feasible.{Allowed, Feasible, stop, step, feasible-length}

@@ -11,6 +11,7 @@ use lib.Dec.{eqb}
 use Rattle.entries.specs.declared.Slot.{Slot}
 use Rattle.entries.specs.Fault.{span}
 use Rattle.entries.specs.Entry.{entryOf}
+use Rattle.entries.proofs.Allowed.{entry-word}
 use Rattle.sequence.specs.Lists.{In, first, later, Paired, Rising, rises, keep}
 use Rattle.sequence.specs.Build.{spell, Build}
 use Rattle.sequence.specs.Verdict.{Before, Widens, Verdict, Tells, NoLater, Outcome, sole, several, noBuild, settled}
@@ -18,7 +19,6 @@ use Rattle.sequence.proofs.ListLaws.{in-keep, keep-in, rising-shorter}
 use Rattle.sequence.proofs.ReorderedLaws.{map-paired, paired-each}
 use Rattle.sequence.proofs.OrderLaws.{before-irr}
 use Rattle.sequence.proofs.VerdictLaws.{tells-no-later}
-use Rattle.sequence.proofs.BuildLaws.{entry-word}
 use Rattle.sequence.proofs.WiderLaws.{build-wider, paired-length}
 use Rattle.spans.specs.Walk.{walked, builds, upTo, placements}
 use Rattle.spans.specs.Settling.{spanEntries, Entered, Means, settles, goes-on, NoLaterIf, Narrowed}

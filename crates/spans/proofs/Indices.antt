@@ -8,7 +8,6 @@ use Prim.Native.Nat.{ℕ, zero, suc, _+_, _≤_, _<_}
 use native.Mathlib.Omega.{arith}
 use native.Mathlib.Nat.{eq-or-lt-of-le}
 use mathlib.Core.Logic.{⊎-elim}
-use lib.ListN.{length}
 use lib.Dec.{T, eqb, leb, ltb}
 use borrow.Author.Tests.{eq-eqb, ne-eqb}
 use Rattle.sequence.proofs.TestLaws.{and-both, both-and}
@@ -81,10 +80,6 @@ numbers-in i (suc n) j (later h) = let k = numbers-in (suc i) n j h in (omega ar
 pub in-numbers : (i n j : ℕ) → i ≤ j → j < i + n → In j (numbers i n)
 in-numbers i zero j h g = absurd (omega arith)
 in-numbers i (suc n) j h g = ⊎-elim (λ e. rw (← e) first) (λ k. later (in-numbers (suc i) n j k (omega arith))) (eq-or-lt-of-le h)
-
-pub length-numbers : (i n : ℕ) → length (numbers i n) ≡ n
-length-numbers i zero = refl
-length-numbers i (suc n) = ap suc (length-numbers (suc i) n)
 
 pub numbers-rising : (i n : ℕ) → Rising _<_ (numbers i n)
 numbers-rising i zero = flat

@@ -6,7 +6,7 @@ use lib.ListN.{length, getD}
 use Rattle.entries.specs.Fault.{mostLength}
 use Rattle.sequence.proofs.LetterLaws.{words-bits}
 use Rattle.tables.specs.Spans.{Spans}
-use Rattle.tables.proofs.PreparedLaws.{span-says}
+use Rattle.entries.proofs.Laws.{span-says}
 use Rattle.walk.specs.Steps.{noWord}
 
 module _ {l : ℕ} {words ones twos : List ℕ} (card : Spans l words ones twos) where

@@ -66,11 +66,12 @@ left-all words ones twos {marks} u e =
 
 -- lists that the entry rules admit are entries that they admit
 pub entered : {l : ℕ} {words ones twos : List ℕ} → Spans l words ones twos → Entered l (entriesIn words ones twos)
-unfolding slotFrom
 entered {l} {words} {ones} {twos} card = record {
   some-entry = omega (arith, card .some-entry, length-row (slotFrom words ones twos) 0 (length words));
-  fits = λ e h. let u = in-row (slotFrom words ones twos) 0 (length words) h in rw (u .2) (card .fits (u .0) (omega (arith, u .1)));
-  spans = λ e h. let u = in-row (slotFrom words ones twos) 0 (length words) h in rw (u .2) (spans-rise card (u .0) (omega (arith, u .1)));
+  fits = λ e h. let u = in-row (slotFrom words ones twos) 0 (length words) h in
+      rw (u .2, slot-from words ones twos (u .0)) (card .fits (u .0) (omega (arith, u .1)));
+  spans = λ e h. let u = in-row (slotFrom words ones twos) 0 (length words) h in
+      rw (u .2, slot-from words ones twos (u .0)) (spans-rise card (u .0) (omega (arith, u .1)));
 }
 
 pub map-none : (reached : List (List ℕ)) → map (λ ws. [] ++ ws) reached ≡ reached

@@ -8,6 +8,7 @@ use Rattle.answers.specs.Row.{row}
 use Rattle.entries.specs.declared.Format.{Format}
 use Rattle.entries.specs.declared.Slot.{Slot}
 use Rattle.entries.specs.Slot.{slotFrom}
+use Rattle.entries.proofs.SlotLaws.{word-from, one-from, two-from}
 use Rattle.layout.specs.Layout.{toldBy, slotOf}
 use Rattle.layout.specs.Card.{cardOf}
 use Rattle.layout.proofs.LaidLaws.{card-told}
@@ -27,12 +28,11 @@ module _ (kind l : ℕ) (words ones twos : List ℕ) (even : sameLength words on
   told = card-told (formatFor kind l words) (slotFrom words ones twos)
 
   said : (numbersOf card (λ s. s .word) ≡ words) × (numbersOf card (λ s. s .one) ≡ ones) × (numbersOf card (λ s. s .two) ≡ twos)
-  unfolding slotFrom
   said =
       let numbers = written-numbers kind l words ones twos in (
-        rw told (numbers (λ s. s .word) words refl (λ e. refl)),
-        rw told (numbers (λ s. s .one) ones (sym (lengths-same words ones twos even .0)) (λ e. refl)),
-        rw told (numbers (λ s. s .two) twos (sym (lengths-same words ones twos even .1)) (λ e. refl)),
+        rw told (numbers (λ s. s .word) words refl (word-from words ones twos)),
+        rw told (numbers (λ s. s .one) ones (sym (lengths-same words ones twos even .0)) (one-from words ones twos)),
+        rw told (numbers (λ s. s .two) twos (sym (lengths-same words ones twos even .1)) (two-from words ones twos)),
       )
 
 pub cards-apart : (kind l kind′ l′ : ℕ) (words ones twos words′ ones′ twos′ : List ℕ)

@@ -21,6 +21,7 @@ use Rattle.entries.specs.declared.Format.{Format}
 use Rattle.entries.specs.declared.Slot.{Slot}
 use Rattle.entries.specs.Entry.{entryOf}
 use Rattle.entries.specs.Slot.{slotFrom}
+use Rattle.entries.proofs.SlotLaws.{word-from, one-from, two-from}
 use Rattle.layout.specs.Layout.{sizeOf, slotOf, entryAt}
 use Rattle.layout.specs.Card.{cardOf}
 use Rattle.layout.proofs.CardLaws.{length-card}
@@ -76,7 +77,6 @@ module _ {limit kind l : ℕ} {words ones twos before after : List ℕ} {r : Wri
       → hasRoom (length words) (length a) (length b) (length c) ≡ true
       → (saysAdmitted q ≡ given (formatFor kind l words))
       × (take (length words) a′ ≡ words) × (take (length words) b′ ≡ ones) × (take (length words) c′ ≡ twos)
-  unfolding slotFrom
   read-into listed room =
       let has = wrote-accepted did said in
       let numbers = written-numbers kind l words ones twos in
@@ -85,9 +85,9 @@ module _ {limit kind l : ℕ} {words ones twos before after : List ℕ} {r : Wri
       ≡ row (λ e. numberOf (slotOf made e)) 0 (length words) =
       λ numberOf. rw made-is in (
         told,
-        listed-words listed told ∙ of-card (λ s. s .word) ∙ numbers (λ s. s .word) words refl (λ e. refl),
-        listed-ones listed told ∙ of-card (λ s. s .one) ∙ numbers (λ s. s .one) ones (sym (has .as-ones)) (λ e. refl),
-        listed-twos listed told ∙ of-card (λ s. s .two) ∙ numbers (λ s. s .two) twos (sym (has .as-twos)) (λ e. refl),
+        listed-words listed told ∙ of-card (λ s. s .word) ∙ numbers (λ s. s .word) words refl (word-from words ones twos),
+        listed-ones listed told ∙ of-card (λ s. s .one) ∙ numbers (λ s. s .one) ones (sym (has .as-ones)) (one-from words ones twos),
+        listed-twos listed told ∙ of-card (λ s. s .two) ∙ numbers (λ s. s .two) twos (sym (has .as-twos)) (two-from words ones twos),
       )
 
 -- what is written was accepted and had room

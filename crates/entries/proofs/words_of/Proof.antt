@@ -3,9 +3,9 @@ use borrow.Author.Needs.{needs}
 use Prim.Native.Nat.{ℕ, suc, _^_}
 use mathlib.Core.Path.{ap, _∙_}
 use native.Mathlib.Omega.{arith}
-use Rattle.answers.specs.Row.{row}
 use Rattle.answers.proofs.RowLaws.{row-at}
 use Rattle.entries.specs.Fault.{mostLength}
+use Rattle.entries.proofs.Edges.{powers-of-four}
 use Rattle.entries.proofs.words_of.Statement.{statement}
 use Rattle.entries.proofs.words_of.Tie as tie
 
@@ -16,8 +16,9 @@ array-read-result : tie.Need-array-read-result
 array-read-result c = search needs
 
 returns : tie.Need-returns
-unfolding row
-returns c = let l = c .args .l in row-at (λ (i : ℕ). 4 ^ i) 0 0 (suc mostLength) l (search needs) ∙ ap (λ (i : ℕ). 4 ^ i) (omega arith)
+returns c =
+    let l = c .args .l in
+    rw powers-of-four at (row-at (λ (i : ℕ). 4 ^ i) 0 0 (suc mostLength) l (search needs)) ∙ ap (λ (i : ℕ). 4 ^ i) (omega arith)
 
 pub words-of-spec : {M : Type 1} → statement M
 words-of-spec = tie.close (tie.spec mul-result array-read-result returns)

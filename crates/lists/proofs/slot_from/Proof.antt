@@ -1,7 +1,7 @@
 -- `lists::slot_from` meets its contract. Assumes nothing.
-use mathlib.Core.Path.{refl}
-use Rattle.entries.specs.Slot.{slotFrom}
+use mathlib.Core.Path.{sym}
 use borrow.Author.Needs.{needs}
+use Rattle.entries.proofs.SlotLaws.{slot-from}
 use Rattle.lists.proofs.slot_from.Statement.{statement}
 use Rattle.lists.proofs.slot_from.Tie as tie
 
@@ -24,8 +24,7 @@ shared-slice-read-t13 : tie.Need-shared-slice-read-t13
 shared-slice-read-t13 c = search needs
 
 returns : tie.Need-returns
-unfolding slotFrom
-returns c = refl
+returns c = sym (slot-from _ _ _ _)
 
 pub slot-from-spec : {M : Type 1} → statement M
 slot-from-spec =
