@@ -42,6 +42,10 @@ module _ (limit : ℕ) (card : List ℕ) where
   unfolding admission
   admission-refused e = first-refused-any (readingOrder limit card) sound (toldBy card) e
 
+  pub order-refused : {n p : ℕ} → admission limit card ≡ refused n p → first (readingOrder limit card) sound ≡ refused n p
+  unfolding admission
+  order-refused e = first-refused-any (readingOrder limit card) (toldBy card) sound e
+
   pub admission-admits : {f : Format} → admission limit card ≡ given f → Admits limit card f
   unfolding admission
   admission-admits {f} e =
@@ -61,12 +65,12 @@ module _ (limit : ℕ) (card : List ℕ) {r : Admitted} (e : saysAdmitted r ≡ 
 
 module _ (limit : ℕ) (card : List ℕ) where
   pub entry-refused : (i : ℕ) {n p : ℕ} → admission limit card ≡ refused n p → entryFetch limit card i ≡ refused n p
-  unfolding admission entryFetch
-  entry-refused i e = first-refused _ _ (readingOrder limit card) (first-refused-any (readingOrder limit card) (toldBy card) sound e)
+  unfolding entryFetch
+  entry-refused i e = first-refused _ _ (readingOrder limit card) (order-refused limit card e)
 
   pub step-refused : (at : ℕ) {n p : ℕ} → admission limit card ≡ refused n p → stepping limit card at ≡ refused n p
-  unfolding admission stepping
-  step-refused at e = first-refused-any (readingOrder limit card) (toldBy card) (nextAt card at) e
+  unfolding stepping
+  step-refused at e = first-refused-any (readingOrder limit card) sound (nextAt card at) (order-refused limit card e)
 
   module _ {f : Format} (has : Admits limit card f) (i : ℕ) where
     -- the block of an entry stands on the card

@@ -14,7 +14,7 @@ use Rattle.answers.specs.Answer.{Answer, given, refused, Sound, sound, first}
 use Rattle.answers.proofs.Laws.{first-pass}
 use Rattle.block.specs.Block.{blockBytes, blockAt, blockTests}
 use Rattle.block.proofs.Laws.{block-front}
-use Rattle.layout.specs.Layout.{sizeOf}
+use Rattle.layout.specs.Layout.{formatOf, toldBy, sizeOf}
 use Rattle.card.specs.Reading.{fieldTests, headTests, readingOrder}
 use Rattle.card.proofs.ReadingLaws.{head-has, reading-stops, size-wrong}
 
@@ -47,6 +47,10 @@ pub record Alike (limit : ℕ) (card other : List ℕ) : Type 0 where
   pub here : first (readingOrder limit card) sound ≡ refused number place
   pub there : first (readingOrder limit other) sound ≡ refused number place
   pub block : blockAt other 0 ≡ blockAt card 0
+
+-- so that both tell the same format
+pub alike-told : {limit : ℕ} {card other : List ℕ} → Alike limit card other → toldBy card ≡ toldBy other
+alike-told a = ap formatOf (sym (a .block))
 
 turned : {limit : ℕ} {card other : List ℕ} → Alike limit card other → Alike limit other card
 turned a = record { number = a .number; place = a .place; here = a .there; there = a .here; block = sym (a .block) }

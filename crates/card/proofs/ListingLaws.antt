@@ -13,7 +13,7 @@ use Rattle.answers.specs.declared.Refusal.{Refusal}
 use Rattle.answers.specs.Numbers.{Room}
 use Rattle.answers.specs.Answer.{Answer, given, refused, Sound, sound, first}
 use Rattle.answers.specs.Row.{row}
-use Rattle.answers.proofs.Laws.{first-fail, first-last, first-holds, first-passed, first-refused, first-both, first-value, first-given-any, first-refused-any, given-not-refused, refusal-same}
+use Rattle.answers.proofs.Laws.{first-fail, first-last, first-holds, first-passed, first-refused, first-both, first-value, first-given-any, given-not-refused, refusal-same}
 use Rattle.answers.proofs.RowLaws.{length-row, row-none, row-more}
 use Rattle.answers.proofs.Tests.{both}
 use Rattle.block.specs.Bytes.{AreBytes}
@@ -24,7 +24,7 @@ use Rattle.layout.specs.Layout.{toldBy, slotOf}
 use Rattle.card.specs.Reading.{readingOrder}
 use Rattle.card.specs.Fetching.{admission, saysAdmitted}
 use Rattle.card.specs.Listing.{hasRoom, listTests, listing, filled, Listed}
-use Rattle.card.proofs.FetchingLaws.{Admits, order-admits, admission-given, admission-refused, admission-admits}
+use Rattle.card.proofs.FetchingLaws.{Admits, order-admits, admission-given, admission-refused, order-refused, admission-admits}
 
 -- ---- a list that is filled from the front
 
@@ -88,8 +88,8 @@ fits-room m words ones twos has =
 
 module _ (limit : ℕ) (card words ones twos : List ℕ) where
   listing-refused : {n p : ℕ} → admission limit card ≡ refused n p → listing limit card words ones twos ≡ refused n p
-  unfolding admission listing listTests
-  listing-refused e = first-refused _ _ (readingOrder limit card) (first-refused-any (readingOrder limit card) (toldBy card) sound e)
+  unfolding listing listTests
+  listing-refused e = first-refused _ _ (readingOrder limit card) (order-refused limit card e)
 
   -- nothing is written where the answer is a refusal
   untouched : {n : Refusal} → AreBytes card → listing limit card words ones twos ≡ refused (n .number) (n .place)

@@ -12,7 +12,7 @@ use borrow.Author.Tests.{lt-ltb, le-ltb, le-leb, lt-leb, ltb-true, leb-true, eqb
 use Rattle.answers.specs.Numbers.{Word, Places}
 use Rattle.answers.specs.Answer.{given, refused, sound, test, first}
 use Rattle.answers.proofs.Laws.{first-pass, first-fail, first-last, first-passed}
-use Rattle.answers.proofs.Only.{Only, none, also}
+use Rattle.answers.proofs.Only.{Only, none, also, holds}
 use Rattle.answers.proofs.Tests.{both, either}
 use Rattle.entries.specs.declared.Format.{Format}
 use Rattle.entries.specs.declared.Slot.{Slot}
@@ -121,6 +121,11 @@ module _ (f : Format) (e : ℕ) (s : Slot) where
   pub entry-only : {P : ℕ → Type 0} → P Word → P Places → Only P (entryTests f e s)
   unfolding entryTests
   entry-only word places = also word (also places none)
+
+  -- where the word fits, by the places' alone
+  pub fit-only : {P : ℕ → Type 0} → s .word < 4 ^ f .l → P Places → Only P (entryTests f e s)
+  unfolding entryTests
+  fit-only fits places = holds (lt-ltb (s .word) (4 ^ f .l) fits) (also places none)
 
   -- a word that fits leaves the test of the places
   word-fits : s .word < 4 ^ f .l

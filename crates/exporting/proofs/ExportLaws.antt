@@ -8,9 +8,9 @@ use lib.ListN.{length, drop}
 use borrow.Author.Tests.{le-leb, lt-leb}
 use Rattle.answers.specs.declared.Refusal.{Refusal}
 use Rattle.answers.specs.Numbers.{Room}
-use Rattle.answers.specs.Answer.{given, refused, sound}
+use Rattle.answers.specs.Answer.{given, refused}
 use Rattle.answers.specs.Row.{row}
-use Rattle.answers.proofs.Laws.{first-holds, first-refused, first-refused-any, first-fail, first-last}
+use Rattle.answers.proofs.Laws.{first-holds, first-refused, first-fail, first-last, first-value}
 use Rattle.block.specs.Bytes.{AreBytes}
 use Rattle.block.specs.Block.{blockBytes}
 use Rattle.entries.specs.declared.Format.{Format}
@@ -20,7 +20,7 @@ use Rattle.layout.specs.Layout.{perBlock, toldBy, slotOf}
 use Rattle.layout.proofs.Laws.{within-both}
 use Rattle.card.specs.Reading.{readingOrder}
 use Rattle.card.specs.Fetching.{admission}
-use Rattle.card.proofs.FetchingLaws.{admission-admits}
+use Rattle.card.proofs.FetchingLaws.{order-refused, admission-admits}
 use Rattle.lists.proofs.AdmittedLaws.{its-reads, its-told, admitted-size}
 use Rattle.probes.specs.Line.{lineText, mostLine, isSmall}
 use Rattle.probes.proofs.LengthLaws.{line-few}
@@ -86,8 +86,13 @@ module _ (card : List ℕ) (of-bytes : AreBytes card) {f : Format} (admitted : a
 
 -- the reader's refusals
 pub card-refused : (limit : ℕ) (card : List ℕ) (room : ℕ) {n p : ℕ} → admission limit card ≡ refused n p → exporting limit card room ≡ refused n p
-unfolding exporting admission
-card-refused limit card room e = first-refused _ _ (readingOrder limit card) (first-refused-any (readingOrder limit card) (toldBy card) sound e)
+unfolding exporting
+card-refused limit card room e = first-refused _ _ (readingOrder limit card) (order-refused limit card e)
+
+-- what is given is the list's length
+pub list-long : (limit : ℕ) (card : List ℕ) (room : ℕ) {n : ℕ} → exporting limit card room ≡ given n → n ≡ length (listOf card)
+unfolding exporting
+list-long limit card room e = sym (first-value _ _ _ e)
 
 pub export-refused : {card before : List ℕ} {n : Refusal} → AreBytes card → admission mostEntries card ≡ refused (n .number) (n .place)
     → Exports mostEntries card before (Refused n) before

@@ -4,17 +4,22 @@ use mathlib.Core.List.{List, _++_}
 use Prim.Native.Nat.{ℕ, _≤_}
 use native.Mathlib.Omega.{arith}
 use lib.ListN.{length, drop}
-use Rattle.answers.specs.Answer.{given, outputAfter}
+use Rattle.answers.specs.Numbers.{Room}
+use Rattle.answers.specs.Answer.{Answer, given, refused, Sound, sound, first, outputAfter}
+use Rattle.answers.proofs.Laws.{given-not-refused}
 use Rattle.layout.specs.Layout.{toldBy}
+use Rattle.card.specs.Reading.{readingOrder}
 use Rattle.card.specs.Fetching.{admission}
+use Rattle.card.proofs.FetchingLaws.{admission-given, admission-refused}
+use Rattle.card.proofs.RefusalNumbers.{reader-below}
 use Rattle.writer.specs.declared.Written.the-variants.{Card}
 use Rattle.probes.specs.Line.{mostNumber}
 use Rattle.importing.specs.Importing.{cardIn, importing, Imports}
 use Rattle.importing.proofs.Imported.{imported-short}
 use Rattle.exporting.specs.declared.Exported.{Exported}
-use Rattle.exporting.specs.Exporting.{listOf, listRoom, saysExported, Exports}
+use Rattle.exporting.specs.Exporting.{listOf, exporting, listRoom, saysExported, Exports}
 use Rattle.exporting.proofs.RoundTrip.{listed-imports}
-use Rattle.exporting.proofs.ExportLaws.{list-given}
+use Rattle.exporting.proofs.ExportLaws.{list-given, card-refused}
 
 module _ (limit : ℕ) (few : limit ≤ mostNumber) (card : List ℕ) (admitted : admission limit card ≡ given (toldBy card)) where
   -- the list is imported, and no longer list is
@@ -35,3 +40,15 @@ module _ (limit : ℕ) (few : limit ≤ mostNumber) (card : List ℕ) (admitted 
   pub export-room : {before after : List ℕ} {r : Exported} → Exports limit card before r after → listRoom limit ≤ length before
       → saysExported r ≡ given (length (listOf card))
   export-room did room = export-given did (omega (arith, list-short)) .0
+
+-- so that with it 12 never comes
+pub exporting-never : (limit : ℕ) → limit ≤ mostNumber → (card : List ℕ) {p : ℕ} → exporting limit card (listRoom limit) ≡ refused Room p → ⊥
+exporting-never limit few card {p} e = go (first (readingOrder limit card) sound) refl
+  where
+    go : (a : Answer Sound) → first (readingOrder limit card) sound ≡ a → ⊥
+    go (given sound) holds =
+        let admitted = admission-given limit card holds in
+        given-not-refused (sym (list-given limit card admitted (listRoom limit) (list-short limit few card admitted)) ∙ e)
+    go (refused k q) stops =
+        let same : k ≡ Room = cc (card-refused limit card (listRoom limit) (admission-refused limit card stops)) in
+        omega (arith, reader-below limit card sound stops)

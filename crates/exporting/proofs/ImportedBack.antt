@@ -10,19 +10,19 @@ use Rattle.entries.specs.Fault.{pair}
 use Rattle.entries.specs.Slot.{slotFrom}
 use Rattle.layout.specs.Layout.{toldBy, slotOf}
 use Rattle.layout.specs.Card.{cardOf}
-use Rattle.layout.proofs.CardLaws.{length-card, card-slot, card-same}
+use Rattle.layout.proofs.CardLaws.{card-slot, card-same}
 use Rattle.card.specs.Fetching.{admission}
 use Rattle.lists.specs.Lists.{formatFor}
 use Rattle.lists.proofs.AdmittedLaws.{itsWords, itsOnes, itsTwos, format-same, slot-same}
 use Rattle.writer.specs.declared.Written.{Written}
 use Rattle.writer.specs.Writing.{saysWritten}
-use Rattle.writer.proofs.WritingLaws.{wrote-size}
 use Rattle.writer.proofs.RoundTrip.{read-back}
 use Rattle.probes.specs.Line.{mostNumber}
 use Rattle.probes.specs.Lines.{linesOf, lineIn}
 use Rattle.probes.specs.Testing.{lineMark}
 use Rattle.importing.specs.Importing.{kindIn, lettersIn, wordsIn, onesIn, twosIn, cardIn, importing, Imports}
-use Rattle.importing.proofs.SoundCard.{told-in}
+use Rattle.importing.proofs.SoundCard.{card-in, told-in}
+use Rattle.importing.proofs.ImportingLaws.{card-long}
 use Rattle.importing.proofs.Imported.{imported-sound, imported-writes, imported-card}
 use Rattle.exporting.specs.declared.Exported.{Exported}
 use Rattle.exporting.specs.Exporting.{listOf, saysExported, Exports}
@@ -36,7 +36,6 @@ made-again : (limit : ℕ) (text : List ℕ) (admitted : admission limit (cardIn
     → cardOf (formatFor (toldBy (cardIn text) .kind) (toldBy (cardIn text) .l) (itsWords limit (cardIn text) admitted))
     (slotFrom (itsWords limit (cardIn text) admitted) (itsOnes limit (cardIn text) admitted) (itsTwos limit (cardIn text) admitted))
     ≡ cardIn text
-unfolding cardIn
 made-again limit text admitted =
     let card = cardIn text in
     let format = formatFor (kindIn text) (lettersIn text) (wordsIn text) in
@@ -45,18 +44,16 @@ made-again limit text admitted =
     ap (λ (g : Format). cardOf g its) (format-same limit card admitted)
     ∙ card-same (toldBy card) its (slotOf card) (slot-same limit card admitted)
     ∙ ap (λ (g : Format). cardOf g (slotOf card)) (told-in text)
-    ∙ card-same format (slotOf card) slots (card-slot format slots)
+    ∙ card-same format (slotOf card) slots (λ e h. ap (λ (c : List ℕ). slotOf c e) (card-in text) ∙ card-slot format slots e h)
+    ∙ sym (card-in text)
 
 module _ {limit : ℕ} (few : limit ≤ mostNumber) {text before after : List ℕ} {r : Written} {n : ℕ}
     (did : Imports limit text before r after) (said : saysWritten r ≡ given n) where
   admitted : admission limit (cardIn text) ≡ given (toldBy (cardIn text))
   admitted = rw (imported-card did said) at (read-back (imported-writes did said) said .admitted) ∙ ap given (sym (told-in text))
 
-  card-long : length (cardIn text) ≡ n
-  unfolding cardIn
-  card-long =
-      length-card (formatFor (kindIn text) (lettersIn text) (wordsIn text)) (slotFrom (wordsIn text) (onesIn text) (twosIn text))
-      ∙ wrote-size (imported-writes did said) said
+  long : length (cardIn text) ≡ n
+  long = sym (card-long limit text (length before) (sym (did .answer) ∙ said))
 
   listed : listOf (cardIn text) ≡ backOf text
   listed = list-again text (imported-sound did said)
@@ -84,10 +81,10 @@ module _ {limit : ℕ} (few : limit ≤ mostNumber) {text before after : List �
       imports-again {room} {last} again h =
           let own = rw back-list at again in
           let answer : importing limit (listOf (cardIn text)) (length room) ≡ given n =
-          listed-imports limit few (cardIn text) admitted (length room) (rw card-long h) ∙ ap given card-long in
+          listed-imports limit few (cardIn text) admitted (length room) (rw long h) ∙ ap given long in
           let same : cardIn (listOf (cardIn text)) ≡ take n after =
           listed-card limit few (cardIn text) admitted ∙ made-again limit text admitted ∙ sym (imported-card did said) in
           let card = cardIn (listOf (cardIn text)) in
-          let long : length card ≡ n = ap length (same ∙ imported-card did said) ∙ card-long in
+          let size : length card ≡ n = ap length (same ∙ imported-card did said) ∙ long in
           let bytes : last ≡ card ++ drop (length card) room = rw answer at (own .bytes) in
-          (own .answer ∙ answer, bytes ∙ (λ i. same i ++ drop (long i) room))
+          (own .answer ∙ answer, bytes ∙ (λ i. same i ++ drop (size i) room))

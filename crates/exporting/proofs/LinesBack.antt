@@ -1,25 +1,25 @@
 -- The text of fine lines has just these lines. Assumes nothing.
 use mathlib.Core.Path.{_≡_, refl, sym, ap, _∙_}
-use mathlib.Core.Logic.{_⊎_, inl, inr, ⊎-elim}
-use mathlib.Core.Bool.{Bool, true, false, cond, _||_}
+use mathlib.Core.Logic.{_⊎_, inr, ⊎-elim}
+use mathlib.Core.Bool.{Bool, true, false, _||_}
 use mathlib.Core.List.{List, [], _∷_, map}
-use Prim.Native.Nat.{ℕ, suc, _+_, _≤_, _<_}
+use Prim.Native.Nat.{ℕ, suc, _≤_, _<_}
 use native.Mathlib.Omega.{arith}
 use lib.ListN.{length, getD, take, length-append, length-map}
 use lib.Seq.{length-take-le, getD-take}
 use lib.Dec.{eqb}
-use borrow.Author.Tests.{eq-eqb, lt-ltb}
+use borrow.Author.Tests.{eq-eqb}
 use Rattle.answers.specs.Answer.{given, sound, first}
-use Rattle.answers.proofs.Laws.{first-pass, turns-hold, first-given-any}
 use Rattle.probes.specs.Line.{Line, lineText, fine}
 use Rattle.probes.specs.Reading.{newline}
 use Rattle.probes.specs.Lines.{linesOf, lineOf, linesIn}
-use Rattle.probes.specs.Testing.{hasZero, lineMark, lineLetters, known, outlineOf, agree, testsAt, textTests, scanning}
+use Rattle.probes.specs.Testing.{hasZero, lineMark, lineLetters, known, outlineOf, agree, testsAt, scanning}
 use Rattle.probes.proofs.LineLaws.{line-ends}
 use Rattle.probes.proofs.LinesLaws.{lines-none}
 use Rattle.probes.proofs.TextLaws.{map-at}
 use Rattle.probes.proofs.FirstLaws.{line-first, reads-back}
-use Rattle.probes.proofs.TestLaws.{line-later, later-sound}
+use Rattle.probes.proofs.TestLaws.{line-later, later-sound, known-in}
+use Rattle.probes.proofs.SoundLaws.{text-holds}
 use Rattle.exporting.specs.Exporting.{textOf}
 
 -- each line is fine
@@ -49,17 +49,6 @@ pub record Agreeing (k l : ℕ) (x : Line) : Type 0 where
   pub mark : (lineMark x ≡ 0) ⊎ (lineMark x ≡ k)
   pub letters : lineLetters x ≡ l
   pub no-zero : hasZero (x .listed) ≡ false
-
-known-in : (f : Line → ℕ) (k : ℕ) (xs : List Line)
-    → ((i : ℕ) → i < length xs → (f (getD xs i (lineOf [])) ≡ 0) ⊎ (f (getD xs i (lineOf [])) ≡ k))
-    → (known f xs ≡ 0) ⊎ (known f xs ≡ k)
-unfolding known
-known-in f k [] each = inl refl
-known-in f k (x ∷ xs) each = go (known-in f k xs (λ i h. each (suc i) (omega arith))) (eqb (f x) 0) (each 0 (omega arith))
-  where
-    go : (known f xs ≡ 0) ⊎ (known f xs ≡ k) → (t : Bool) → (f x ≡ 0) ⊎ (f x ≡ k) → (cond t (known f xs) (f x) ≡ 0) ⊎ (cond t (known f xs) (f x) ≡ k)
-    go later true own = later
-    go later false own = own
 
 agree-in : (a b k : ℕ) → (a ≡ 0) ⊎ (a ≡ k) → (b ≡ 0) ⊎ (b ≡ k) → agree a b ≡ true
 agree-in a b k =
@@ -102,15 +91,9 @@ module _ (k l : ℕ) (xs : List Line) (fines : Fines xs) (agreeing : (i : ℕ) �
       (agree-in (known lineLetters (take e xs)) (lineLetters x) l letters (inr (own .letters))) (own .no-zero)))
 
   pub text-sound : 0 < length xs → scanning (textOf xs) ≡ given (outlineOf (linesIn (textOf xs)))
-  unfolding textTests
   text-sound some-line =
       let many : length (linesOf (textOf xs)) ≡ length xs = ap length (lines-back xs fines) ∙ length-map xs lineText in
-      let some-byte : 0 < length (textOf xs) = text-some xs some-line fines in
-      first-pass _ _ _ _ _ (lt-ltb 0 (length (textOf xs)) some-byte)
-      ∙ first-given-any _ _ _ (outlineOf (linesIn (textOf xs)))
-      (turns-hold (testsAt (textOf xs)) (length (linesOf (textOf xs))) 0 (λ i h.
-      let here : 0 + i ≡ i = omega arith in
-      rw here (line-holds i (omega arith))))
+      text-holds (textOf xs) (text-some xs some-line fines) (λ i h. line-holds i (omega arith))
     where
       text-some : (ys : List Line) → 0 < length ys → Fines ys → 0 < length (textOf ys)
       text-some [] h all = absurd (omega arith)

@@ -20,6 +20,7 @@ use Rattle.text.proofs.PuttingLaws.{put-nothing, put-then, put-before, put-as}
 use Rattle.probes.specs.declared.line.Marked.{Marked}
 use Rattle.probes.specs.declared.line.Marked.the-variants.{Bare, Two, Run}
 use Rattle.probes.specs.Line.{mostNumber, listedText, lineText, isSmall}
+use Rattle.probes.proofs.LineLaws.{line-parts}
 use Rattle.probes.proofs.LengthLaws.{line-long as text-long}
 use Rattle.exporting.specs.Exporting.{listedFor, lineFor}
 
@@ -103,6 +104,5 @@ pub line-put : (kind l : ℕ) (s : Slot) {y : Marked} {at a b c d : ℕ} {l₀ l
     → Put (map letterOf (lettersOf l (s .word))) at l₀ a l₁ → Put (ascii "\t") a l₁ b l₂ → y ≡ listedFor kind s
     → Put (listedText y) b l₂ c l₃ → Put (ascii "\n") c l₃ d l₄
     → Put (lineText (lineFor kind l s)) at l₀ d l₄
-unfolding lineText
 line-put kind l s word tab is listed newline =
-    put-then word (put-then tab (put-then (put-as listed (ap listedText is)) newline))
+    put-as (put-then word (put-then tab (put-then (put-as listed (ap listedText is)) newline))) (line-parts (lineFor kind l s))

@@ -4,19 +4,19 @@ use mathlib.Core.List.{List, _++_}
 use Prim.Native.Nat.{ℕ, _≤_}
 use native.Mathlib.Omega.{arith}
 use lib.ListN.{length, take, drop}
-use borrow.Author.Tests.{le-leb}
 use Rattle.answers.specs.Answer.{given}
-use Rattle.answers.proofs.Laws.{first-holds, first-last, first-both, first-value}
+use Rattle.answers.proofs.Laws.{first-both}
 use Rattle.entries.specs.Slot.{slotFrom}
 use Rattle.layout.specs.Layout.{toldBy, sizeOf}
 use Rattle.layout.specs.Card.{cardOf}
 use Rattle.card.specs.Fetching.{admission}
-use Rattle.lists.specs.Lists.{formatFor, listsTests}
-use Rattle.lists.proofs.Laws.{accepted-lists}
+use Rattle.lists.specs.Lists.{formatFor}
 use Rattle.lists.proofs.AdmittedLaws.{itsWords, itsOnes, itsTwos, length-its, admitted-size, its-accepted}
-use Rattle.writer.specs.Writing.{writing, saysWritten}
+use Rattle.writer.specs.Writing.{saysWritten}
+use Rattle.writer.proofs.WritingLaws.{card-given}
 use Rattle.probes.specs.Line.{mostNumber}
 use Rattle.importing.specs.Importing.{cardIn, importing, Imports}
+use Rattle.importing.proofs.SoundCard.{card-in}
 use Rattle.importing.proofs.ImportingLaws.{importing-writes}
 use Rattle.exporting.specs.Exporting.{listOf, exporting, saysExported, Exports}
 use lib.Seq.{take-at}
@@ -27,6 +27,7 @@ use Rattle.writer.specs.declared.Written.{Written}
 use Rattle.writer.proofs.AgainLaws.{again-card}
 use Rattle.exporting.specs.declared.Exported.{Exported}
 use Rattle.exporting.proofs.ListBack.{listed-sound, listed-stands}
+use Rattle.exporting.proofs.ExportLaws.{list-long}
 
 module _ (limit : ℕ) (few : limit ≤ mostNumber) (card : List ℕ) (admitted : admission limit card ≡ given (toldBy card)) where
   abbrev kind : ℕ
@@ -39,25 +40,20 @@ module _ (limit : ℕ) (few : limit ≤ mostNumber) (card : List ℕ) (admitted 
   pub listed-card : cardIn (listOf card)
       ≡ cardOf (formatFor kind l (itsWords limit card admitted))
       (slotFrom (itsWords limit card admitted) (itsOnes limit card admitted) (itsTwos limit card admitted))
-  unfolding cardIn
   listed-card =
       let stands = listed-stands limit few card admitted in
-      rw (stands .same-twos) (rw (stands .same-kind, stands .same-letters) (rw (stands .same-words, stands .same-ones) refl))
+      card-in (listOf card)
+      ∙ rw (stands .same-twos) (rw (stands .same-kind, stands .same-letters) (rw (stands .same-words, stands .same-ones) refl))
 
   -- and it is imported, where there is room
   pub listed-imports : (room : ℕ) → length card ≤ room → importing limit (listOf card) room ≡ given (length card)
-  unfolding writing
   listed-imports room h =
       let stands = listed-stands limit few card admitted in
-      let words = itsWords limit card admitted in
       let size : sizeOf (length (itsWords limit card admitted)) ≡ length card =
       ap sizeOf (length-its limit card admitted) ∙ sym (admitted-size limit card admitted) in
       importing-writes limit (listOf card) room (listed-sound limit few card admitted)
       ∙ rw (stands .same-twos) (rw (stands .same-kind, stands .same-letters) (rw (stands .same-words, stands .same-ones)
-      (first-holds _ _ (listsTests limit kind l words (itsOnes limit card admitted) (itsTwos limit card admitted))
-      (accepted-lists (its-accepted limit card admitted))
-      ∙ first-last _ _ _ _ (le-leb (sizeOf (length words)) room (omega arith))
-      ∙ ap given size)))
+      (card-given room (its-accepted limit card admitted) (omega arith) ∙ ap given size)))
 
   -- "must import to the same card"
   pub same-card : AreBytes card → cardIn (listOf card) ≡ card
@@ -73,10 +69,9 @@ module _ (limit : ℕ) (few : limit ≤ mostNumber) (card : List ℕ) {before af
 
   -- the list is the first n bytes of the output
   pub exported-list : take n after ≡ listOf card
-  unfolding exporting
   exported-list =
       let answer = sym (did .answer) ∙ said in
-      let size : length (listOf card) ≡ n = first-value _ (length (listOf card)) n answer in
+      let size = sym (list-long limit card (length before) answer) in
       let rest = drop (length (listOf card)) before in
       let bytes : after ≡ listOf card ++ rest = rw answer at (did .bytes) in
       ap (take n) bytes ∙ take-at (listOf card) rest n size

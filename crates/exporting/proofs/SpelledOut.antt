@@ -26,7 +26,7 @@ use Rattle.probes.proofs.NoShift.{some-both}
 use Rattle.probes.proofs.TextLaws.{whole, lines-whole, lines-many}
 use Rattle.importing.specs.Importing.{kindIn, lettersIn, wordsIn, cardIn}
 use Rattle.importing.proofs.WordBack.{letters-value}
-use Rattle.importing.proofs.SoundCard.{slotFor, OwnLine, words-many, told-in, slot-in, own-line, own-text}
+use Rattle.importing.proofs.SoundCard.{slotFor, slot-for, OwnLine, words-many, told-in, slot-in, own-line, own-text}
 use Rattle.exporting.specs.Exporting.{listedFor, lineFor, textOf, linesFor, listOf}
 use Rattle.exporting.specs.Back.{hyphened, spelledOut, backOf}
 use Rattle.exporting.proofs.PutLaws.{for-span, for-one, for-two}
@@ -59,12 +59,11 @@ listed-again kind w (Run p q) small some of-kind =
 
 line-again : {text : List ℕ} {x : Line} → OwnLine text x
     → lineFor (kindIn text) (lettersIn text) (slotFor (kindIn text) x) ≡ spelledOut (kindIn text) x
-unfolding slotFor
 line-again {text} {x} own =
     let word : lettersOf (lettersIn text) (valueOf (x .word)) ≡ x .word =
     ap (λ (l : ℕ). lettersOf l (valueOf (x .word))) (sym (own .letters)) ∙ letters-value (x .word) (own .fine .codes) in
     let listed = listed-again (kindIn text) (valueOf (x .word)) (x .listed) (own .fine .small) (own .no-zero) (own .mark) in
-    λ i. record { word = word i; listed = listed i }
+    ap (lineFor (kindIn text) (lettersIn text)) (slot-for (kindIn text) x) ∙ (λ i. record { word = word i; listed = listed i })
 
 -- ---- the lines of a text
 

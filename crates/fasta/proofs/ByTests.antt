@@ -1,5 +1,5 @@
 -- What writing and reading answer, by each of their tests. Assumes nothing.
-use mathlib.Core.Path.{_≡_, refl, _∙_}
+use mathlib.Core.Path.{_≡_, refl, sym, _∙_}
 use mathlib.Core.Bool.{Bool, true, false}
 use mathlib.Core.List.{List, [], _∷_, _++_}
 use mathlib.Core.Logic.{_⊎_, inl, inr}
@@ -9,7 +9,7 @@ use lib.Dec.{leb}
 use borrow.Author.Tests.{le-leb, lt-leb}
 use Rattle.answers.specs.Numbers.{Room, Name, Letter, Line}
 use Rattle.answers.specs.Answer.{given, refused, sound, test, first}
-use Rattle.answers.proofs.Laws.{first-pass, first-fail, first-last, first-refused}
+use Rattle.answers.proofs.Laws.{first-pass, first-fail, first-last, first-refused, first-value}
 use Rattle.letters.specs.Letters.{isLetter}
 use Rattle.fasta.specs.Record.{leading, isName, areLetters, recordOf}
 use Rattle.fasta.specs.Writing.{letterTest, writing}
@@ -24,6 +24,11 @@ module _ (name ls : List ℕ) (room : ℕ) where
   pub writing-unnamed : isName name ≡ false → writing name ls room ≡ refused Name 0
   unfolding writing
   writing-unnamed h = first-fail (isName name) Name 0 _ n h
+
+  -- what is given is the record's length
+  pub writing-long : {k : ℕ} → writing name ls room ≡ given k → k ≡ n
+  unfolding writing
+  writing-long e = sym (first-value _ n _ e)
 
   module _ (named : isName name ≡ true) where
     -- by the test of the letters alone

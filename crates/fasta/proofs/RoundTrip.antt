@@ -15,7 +15,7 @@ use Rattle.fasta.specs.Reading.{nameIn, isHeaded, bodyIn, lettersIn, are
 use Rattle.fasta.specs.Profile.{IsRecord}
 use Rattle.fasta.specs.declared.writing.Recorded.{Recorded}
 use Rattle.fasta.specs.declared.reading.Parsed.{Parsed}
-use Rattle.fasta.proofs.ByTests.{writing-given}
+use Rattle.fasta.proofs.ByTests.{writing-given, writing-long}
 use Rattle.fasta.proofs.ProfileLaws.{own-record, record-own, record-given}
 
 -- ---- writing
@@ -29,7 +29,7 @@ module _ {name ls before after : List ℕ} {r : Recorded} (did : Writes name ls 
       let given-is : writing name ls (length before) ≡ given n = sym (did .answer) ∙ says in
       let a = first-passed (isName name) Name 0 _ (length bytes) n given-is in
       let b = first-passed (areLetters ls) Letter (leading isLetter ls) _ (length bytes) n (a .1) in
-      let long : n ≡ length bytes = sym (first-value _ (length bytes) n given-is) in
+      let long = writing-long name ls (length before) given-is in
       let stands : after ≡ bytes ++ drop (length bytes) before = rw given-is at (did .bytes) in
       record {
         named = a .0;

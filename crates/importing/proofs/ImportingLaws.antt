@@ -11,16 +11,18 @@ use borrow.Author.Tests.{eq-eqb}
 use Rattle.answers.specs.declared.Refusal.{Refusal}
 use Rattle.answers.specs.Numbers.{Length, Count}
 use Rattle.answers.specs.Answer.{given, refused, sound}
-use Rattle.answers.proofs.Laws.{first-holds, first-refused, first-refused-any, first-given-any}
+use Rattle.answers.proofs.Laws.{first-holds, first-refused, first-refused-any, first-given-any, first-value}
+use Rattle.entries.specs.Slot.{slotFrom}
 use Rattle.entries.specs.Fault.{pair, span, leastLength, mostLength}
 use Rattle.layout.specs.Bounds.{leastEntries, mostEntries, isWithin, isKind}
 use Rattle.layout.proofs.Laws.{within-both}
-use Rattle.lists.specs.Lists.{sameLength}
+use Rattle.layout.proofs.CardLaws.{length-card}
+use Rattle.lists.specs.Lists.{formatFor, sameLength}
 use Rattle.lists.proofs.Laws.{length-wrong, count-wrong}
 use Rattle.writer.specs.declared.Written.{Written}
 use Rattle.writer.specs.declared.Written.the-variants.{Refused}
 use Rattle.writer.specs.Writing.{writing, Writes}
-use Rattle.writer.proofs.WritingLaws.{lists-refused}
+use Rattle.writer.proofs.WritingLaws.{writing-is, lists-refused}
 use Rattle.probes.specs.declared.scanning.Outline.{Outline}
 use Rattle.probes.specs.Lines.{linesOf, lineOf, linesIn}
 use Rattle.probes.specs.Testing.{outlineOf, textTests, scanning, kindOf}
@@ -34,17 +36,27 @@ use Rattle.importing.proofs.SoundCard.{words-many}
 -- of a sound text it is what writing its lists answers
 pub importing-writes : (limit : ℕ) (text : List ℕ) (room : ℕ) {s : Outline} → scanning text ≡ given s
     → importing limit text room ≡ writing limit (kindIn text) (lettersIn text) (wordsIn text) (onesIn text) (twosIn text) room
-unfolding importing writing
+unfolding importing
 importing-writes limit text room {s} holds =
     first-holds _ _ (textTests text) (first-given-any (textTests text) (outlineOf (linesIn text)) s sound holds)
+    ∙ sym (writing-is limit (kindIn text) (lettersIn text) (wordsIn text) (onesIn text) (twosIn text) room)
+
+-- of any other what its tests do
+pub text-refused : (limit : ℕ) (text : List ℕ) (room : ℕ) {n p : ℕ} → scanning text ≡ refused n p → importing limit text room ≡ refused n p
+unfolding importing
+text-refused limit text room e = first-refused _ _ (textTests text) (first-refused-any (textTests text) (outlineOf (linesIn text)) sound e)
+
+-- what is given is the card's length
+pub card-long : (limit : ℕ) (text : List ℕ) (room : ℕ) {n : ℕ} → importing limit text room ≡ given n → n ≡ length (cardIn text)
+unfolding importing cardIn
+card-long limit text room e =
+    sym
+    (length-card (formatFor (kindIn text) (lettersIn text) (wordsIn text)) (slotFrom (wordsIn text) (onesIn text) (twosIn text))
+    ∙ first-value _ _ _ e)
 
 module _ (limit : ℕ) (text before : List ℕ) where
   pub import-refused : {n : Refusal} → scanning text ≡ refused (n .number) (n .place) → Imports limit text before (Refused n) before
-  unfolding importing
-  import-refused {n} e =
-      let says : importing limit text (length before) ≡ refused (n .number) (n .place) =
-      first-refused _ _ (textTests text) (first-refused-any (textTests text) (outlineOf (linesIn text)) sound e) in
-      record { answer = sym says; bytes = rw says }
+  import-refused e = let says = text-refused limit text (length before) e in record { answer = sym says; bytes = rw says }
 
   module _ {s : Outline} (holds : scanning text ≡ given s) where
     pub import-sound : {r : Written} {after : List ℕ}

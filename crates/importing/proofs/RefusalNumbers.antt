@@ -9,6 +9,7 @@ use Rattle.answers.specs.Answer.{refused}
 use Rattle.answers.proofs.Only.{none, also, only-append, only-refused}
 use Rattle.lists.proofs.Laws.{lists-only, lists-numbered}
 use Rattle.writer.specs.Writing.{writing}
+use Rattle.writer.proofs.RefusalNumbers.{writing-only}
 use Rattle.probes.proofs.RefusalNumbers.{text-numbered}
 use Rattle.importing.specs.Importing.{kindIn, lettersIn, wordsIn, onesIn, twosIn, importing}
 
@@ -25,9 +26,6 @@ importing-number limit text room e =
 
 pub writing-below : (limit kind l : ℕ) (words ones twos : List ℕ) (room : ℕ) {n p : ℕ}
     → writing limit kind l words ones twos room ≡ refused n p → n < Text
-unfolding writing
 writing-below limit kind l words ones twos room e =
-    only-refused
-    (only-append {P = λ n. n < Text}
-    (lists-only limit kind l words ones twos (omega arith) (omega arith) (omega arith) (omega arith) (omega arith) (omega arith))
-    (also {n = Room} (omega arith) none)) _ e
+    writing-only limit kind l words ones twos room {P = λ n. n < Text}
+    (lists-only limit kind l words ones twos (omega arith) (omega arith) (omega arith) (omega arith) (omega arith) (omega arith)) (omega arith) e

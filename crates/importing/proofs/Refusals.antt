@@ -7,16 +7,15 @@ use Prim.Native.Nat.{ℕ, _≤_}
 use native.Mathlib.Omega.{arith}
 use lib.ListN.{length}
 use Rattle.answers.specs.Numbers.{Text}
-use Rattle.answers.specs.Answer.{Answer, given, refused, sound}
-use Rattle.answers.proofs.Laws.{first-refused, first-refused-any, refusal-same}
+use Rattle.answers.specs.Answer.{Answer, given, refused}
+use Rattle.answers.proofs.Laws.{refusal-same}
 use Rattle.writer.specs.declared.Written.{Written}
 use Rattle.writer.specs.Writing.{writing, saysWritten}
 use Rattle.probes.specs.declared.scanning.Outline.{Outline}
-use Rattle.probes.specs.Lines.{linesIn}
-use Rattle.probes.specs.Testing.{outlineOf, textTests, scanning}
+use Rattle.probes.specs.Testing.{scanning}
 use Rattle.probes.proofs.FaultWords.{refused-at-line}
-use Rattle.importing.specs.Importing.{kindIn, lettersIn, wordsIn, onesIn, twosIn, importing, Imports}
-use Rattle.importing.proofs.ImportingLaws.{importing-writes}
+use Rattle.importing.specs.Importing.{kindIn, lettersIn, wordsIn, onesIn, twosIn, Imports}
+use Rattle.importing.proofs.ImportingLaws.{importing-writes, text-refused}
 use Rattle.probes.specs.Faults.{Empty, FirstAtFault}
 use Rattle.importing.proofs.RefusalNumbers.{writing-below}
 
@@ -27,8 +26,7 @@ module _ {limit : ℕ} {text before after : List ℕ} {r : Written} (did : Impor
 
   -- a text rule that is broken answers
   pub text-first : {n p : ℕ} → scanning text ≡ refused n p → saysWritten r ≡ refused n p
-  unfolding importing
-  text-first e = did .answer ∙ first-refused _ _ (textTests text) (first-refused-any (textTests text) (outlineOf (linesIn text)) sound e)
+  text-first e = did .answer ∙ text-refused limit text (length before) e
 
   -- and where none is, the writer answers, of the list's entries
   pub then-card : {s : Outline} → scanning text ≡ given s

@@ -11,6 +11,7 @@ use Rattle.entries.specs.Slot.{slotFrom}
 use Rattle.entries.specs.Entry.{entryOf}
 use Rattle.entries.proofs.SlotLaws.{slot-from}
 use Rattle.layout.specs.Layout.{toldBy, slotOf, entryAt}
+use Rattle.layout.specs.Card.{cardOf}
 use Rattle.layout.proofs.CardLaws.{card-slot}
 use Rattle.layout.proofs.LaidLaws.{card-told}
 use Rattle.lists.specs.Lists.{formatFor}
@@ -31,7 +32,16 @@ use Rattle.importing.specs.Importing.{kindIn, lettersIn, wordsIn, onesIn
 unfoldable pub slotFor : ℕ → Line → Slot
 slotFor kind x = record { word = valueOf (x .word); one = oneOf (x .listed); two = twoOf kind (x .listed) }
 
+pub slot-for : (kind : ℕ) (x : Line) → slotFor kind x ≡ record { word = valueOf (x .word); one = oneOf (x .listed); two = twoOf kind (x .listed) }
+unfolding slotFor
+slot-for kind x = refl
+
 module _ (text : List ℕ) where
+  -- the card of its lists
+  pub card-in : cardIn text ≡ cardOf (formatFor (kindIn text) (lettersIn text) (wordsIn text)) (slotFrom (wordsIn text) (onesIn text) (twosIn text))
+  unfolding cardIn
+  card-in = refl
+
   pub words-many : length (wordsIn text) ≡ length (linesOf text)
   words-many = length-map (linesIn text) (λ x. valueOf (x .word)) ∙ lines-many text
 

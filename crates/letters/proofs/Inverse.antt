@@ -71,6 +71,10 @@ told-capital (suc (suc zero)) h = (omega arith, omega arith)
 told-capital (suc (suc (suc zero))) h = (omega arith, omega arith)
 told-capital (suc (suc (suc (suc c)))) h = absurd (omega arith)
 
+-- so no byte before them is one
+pub no-capital : (b : ℕ) → b < 65 → codeOf b ≡ noLetter
+no-capital b h = no-letter b .1 (λ c g e. omega (arith, h, e, told-capital c g .0))
+
 pub letter-capital : (b : ℕ) → isLetter b ≡ true → (65 ≤ b) × (b ≤ 90)
 letter-capital b e = read (codeOf b) refl e
   where

@@ -3,7 +3,7 @@
 use mathlib.Core.Path.{_≡_, sym, _∙_}
 use mathlib.Core.Bool.{true, false}
 use mathlib.Core.List.{List}
-use Prim.Native.Nat.{ℕ, _+_}
+use Prim.Native.Nat.{ℕ, _+_, _^_, _<_}
 use native.Mathlib.Omega.{arith}
 use lib.ListN.{length}
 use lib.Dec.{eqb}
@@ -12,11 +12,11 @@ use Rattle.answers.specs.Numbers.{Kind, Length, Lists, Count, Word, Places}
 use Rattle.answers.specs.Answer.{given, refused, sound, first}
 use Rattle.answers.specs.Row.{inTurn}
 use Rattle.answers.proofs.Laws.{first-pass, first-fail, first-passed, turns-hold, turns-held}
-use Rattle.answers.proofs.Only.{Only, Numbered, also, only-turns}
+use Rattle.answers.proofs.Only.{Only, Numbered, also, holds, only-turns, only-within}
 use Rattle.answers.proofs.Tests.{both}
 use Rattle.entries.specs.Slot.{slotFrom}
 use Rattle.entries.specs.Fault.{leastLength, mostLength, entryTests}
-use Rattle.entries.proofs.Laws.{entry-only}
+use Rattle.entries.proofs.Laws.{entry-only, fit-only as entry-fit}
 use Rattle.layout.specs.Bounds.{leastEntries, isWithin, isKind}
 use Rattle.lists.specs.Lists.{formatFor, sameLength, listsTests, Accepted}
 
@@ -108,6 +108,15 @@ module _ (limit kind l : ℕ) (words ones twos : List ℕ) where
   lists-only kinds letters lists count word places =
       also kinds (also letters (also lists (also count
       (only-turns (λ e. entry-only (formatFor kind l words) e (slotFrom words ones twos e) word places) 0 (length words)))))
+
+  -- lists of a kind, of one length and of words that fit are refused by fewer
+  pub fit-only : {P : ℕ → Type 0} → isKind kind ≡ true → sameLength words ones twos ≡ true
+      → ((e : ℕ) → e < length words → slotFrom words ones twos e .word < 4 ^ l)
+      → P Length → P Count → P Places → Only P (listsTests limit kind l words ones twos)
+  unfolding listsTests
+  fit-only a-kind same fits letters count places =
+      holds a-kind (also letters (holds same (also count
+      (only-within 0 (length words) (λ e h. entry-fit (formatFor kind l words) e (slotFrom words ones twos e) (fits e (omega arith)) places)))))
 
   -- each is above 0
   pub lists-numbered : Numbered (listsTests limit kind l words ones twos)

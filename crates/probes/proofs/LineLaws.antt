@@ -10,7 +10,8 @@ use lib.ListN.{length}
 use lib.Dec.{eqb, ltb}
 use borrow.Author.Tests.{eq-eqb, eqb-true, ltb-true, lt-ltb}
 use Rattle.answers.proofs.Tests.{both}
-use Rattle.letters.specs.Letters.{letters, letterOf, codeOf, searched}
+use Rattle.letters.specs.Letters.{letterOf}
+use Rattle.letters.proofs.Inverse.{no-capital}
 use Rattle.probes.specs.declared.line.Marked.{Marked}
 use Rattle.probes.specs.Line.{Line, listedText, lineText, areCodes, isSmall, fine}
 use Rattle.probes.specs.Reading.{
@@ -65,6 +66,11 @@ after-text : (b : ℕ) (xs : List ℕ) → after b (b ∷ xs) ≡ some xs
 unfolding after
 after-text b xs = rw (eq-eqb b b refl) refl
 
+-- its parts, one after the other
+pub line-parts : (x : Line) → map letterOf (x .word) ++ (tab ∷ (listedText (x .listed) ++ (newline ∷ []))) ≡ lineText x
+unfolding lineText
+line-parts x = refl
+
 line-joined : (x : Line) (rest : List ℕ)
     → lineText x ++ rest ≡ map letterOf (x .word) ++ (tab ∷ (listedText (x .listed) ++ (newline ∷ rest)))
 unfolding lineText
@@ -113,10 +119,10 @@ first-read xs r e = worded (ltb 0 (length (readCodes xs .what))) refl e
     worded false q e = let z : _≡_ {A = ℕ} 0 1 = cc in absurd (omega arith)
 
 pub first-text : (x : Line) (rest : List ℕ) → fine x ≡ true → readFirst (lineText x ++ rest) ≡ some (record { what = x; rest = rest })
-unfolding readFirst codeOf searched letters
+unfolding readFirst
 first-text x rest h =
     let f = is-fine x h in
-    let word = letters-text (x .word) tab (listedText (x .listed) ++ (newline ∷ rest)) (f .codes) refl in
+    let word = letters-text (x .word) tab (listedText (x .listed) ++ (newline ∷ rest)) (f .codes) (no-capital tab (omega arith)) in
     let listed = listed-text newline rest refl (λ e. omega arith) (λ e. omega arith) (x .listed) (f .small) in
     rw (line-joined x rest) (rw word (rw (lt-ltb 0 (length (x .word)) (f .some-letter), after-text tab (listedText (x .listed) ++ (newline ∷ rest)))
     (rw listed (rw (after-text newline rest) refl))))
@@ -154,12 +160,13 @@ pub record Ends (x : Line) : Type 0 where
   pub only : firstAt newline body ≡ length body
 
 pub line-ends : (x : Line) → fine x ≡ true → Ends x
-unfolding lineText codeOf searched letters
+unfolding lineText
 line-ends x h = record {
   body = map letterOf (x .word) ++ (tab ∷ listedText (x .listed));
   text = sym (append-assoc (map letterOf (x .word)) (tab ∷ listedText (x .listed)) (newline ∷ []));
   only =
-      lack-joined newline (map letterOf (x .word)) (tab ∷ listedText (x .listed)) (word-lacks newline (x .word) refl (is-fine x h .codes))
+      lack-joined newline (map letterOf (x .word)) (tab ∷ listedText (x .listed))
+      (word-lacks newline (x .word) (no-capital newline (omega arith)) (is-fine x h .codes))
       (lack-one newline tab (listedText (x .listed)) (λ e. omega arith)
       (listed-lacks newline (x .listed) refl (λ e. omega arith) (λ e. omega arith)));
 }

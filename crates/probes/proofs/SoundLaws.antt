@@ -9,9 +9,9 @@ use native.Mathlib.Omega.{arith}
 use lib.ListN.{length, getD, take, drop, length-map, take-append-drop, List·getD-map}
 use lib.Seq.{take-suc}
 use lib.Dec.{eqb}
-use borrow.Author.Tests.{eq-eqb, eqb-true, not-true}
+use borrow.Author.Tests.{lt-ltb, eq-eqb, eqb-true, not-true}
 use Rattle.answers.specs.Answer.{given, first, sound}
-use Rattle.answers.proofs.Laws.{first-passed, first-value, first-given-any, turns-held}
+use Rattle.answers.proofs.Laws.{first-pass, first-passed, first-value, first-given-any, turns-hold, turns-held}
 use Rattle.answers.proofs.Tests.{either}
 use Rattle.probes.specs.declared.scanning.Outline.{Outline}
 use Rattle.probes.specs.Line.{Line, lineText}
@@ -86,6 +86,18 @@ pub record SoundLine (s : Outline) (bs : List ℕ) : Type 0 where
   pub mark : (lineMark (lineOf bs) ≡ 0 → ⊥) → lineMark (lineOf bs) ≡ s .mark
   pub letters : lineLetters (lineOf bs) ≡ s .l
   pub no-zero : hasZero (lineOf bs .listed) ≡ false
+
+-- a text is sound where it has a byte and the tests of each line hold
+pub text-holds : (text : List ℕ) → 0 < length text
+    → ((e : ℕ) → e < length (linesOf text) → first (testsAt text e) sound ≡ given sound)
+    → scanning text ≡ given (outlineOf (linesIn text))
+unfolding textTests
+text-holds text some-byte each =
+    first-pass _ _ _ _ _ (lt-ltb 0 (length text) some-byte)
+    ∙ first-given-any _ _ _ (outlineOf (linesIn text))
+    (turns-hold (testsAt text) (length (linesOf text)) 0 (λ i h.
+    let here : 0 + i ≡ i = omega arith in
+    rw here (each i h)))
 
 module _ (text : List ℕ) {s : Outline} (holds : scanning text ≡ given s) where
   pub sound-outline : s ≡ outlineOf (linesIn text)

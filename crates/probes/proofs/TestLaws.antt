@@ -1,10 +1,11 @@
 -- Laws of the tests of a line, one for each outcome, and of a line more. Assumes nothing.
 use mathlib.Core.Path.{_≡_, refl, ap, _∙_}
-use mathlib.Core.Bool.{true, false, not, cond}
+use mathlib.Core.Logic.{_⊎_, inl}
+use mathlib.Core.Bool.{Bool, true, false, not, cond}
 use mathlib.Core.List.{List, [], _∷_, _++_}
-use Prim.Native.Nat.{ℕ, zero, suc, _+_}
+use Prim.Native.Nat.{ℕ, zero, suc, _+_, _<_}
 use native.Mathlib.Omega.{arith}
-use lib.ListN.{length-append}
+use lib.ListN.{length, getD, length-append}
 use lib.Dec.{eqb}
 use borrow.Author.Tests.{ne-eqb}
 use Rattle.answers.specs.Numbers.{Text, Mixed, Uneven, Zero}
@@ -54,6 +55,20 @@ module _ (s : Outline) (bs : List ℕ) {A : Type 0} (a : A) where
   pub line-later : isLine bs ≡ true → first (lineTests s bs) a ≡ first (saidTests s (lineLetters (lineOf bs)) (lineOf bs .listed)) a
   unfolding lineTests
   line-later e = first-pass _ _ _ _ _ e
+
+-- ---- what is known of lines
+
+-- where each line has k, or nothing, so has what is known of them
+pub known-in : (f : Line → ℕ) (k : ℕ) (xs : List Line)
+    → ((i : ℕ) → i < length xs → (f (getD xs i (lineOf [])) ≡ 0) ⊎ (f (getD xs i (lineOf [])) ≡ k))
+    → (known f xs ≡ 0) ⊎ (known f xs ≡ k)
+unfolding known
+known-in f k [] each = inl refl
+known-in f k (x ∷ xs) each = go (known-in f k xs (λ i h. each (suc i) (omega arith))) (eqb (f x) 0) (each 0 (omega arith))
+  where
+    go : (known f xs ≡ 0) ⊎ (known f xs ≡ k) → (t : Bool) → (f x ≡ 0) ⊎ (f x ≡ k) → (cond t (known f xs) (f x) ≡ 0) ⊎ (cond t (known f xs) (f x) ≡ k)
+    go later true own = later
+    go later false own = own
 
 -- ---- a line more
 

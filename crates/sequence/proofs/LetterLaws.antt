@@ -13,9 +13,11 @@ use lib.Bits.{bitAnd, and-mask}
 use lib.Pow.{pow-mono}
 use lib.Seq.{take-at}
 use borrow.Author.Tests.{eqb-true, eq-eqb}
+use Rattle.sequence.specs.Lists.{In}
 use Rattle.sequence.specs.Arrangement.{overlaps}
 use Rattle.sequence.specs.Build.{lettersOf}
 use Rattle.sequence.specs.Verdict.{Before}
+use Rattle.sequence.proofs.ListLaws.{not-in-nil, in-cons, in-append}
 use Rattle.sequence.proofs.OrderLaws.{before-irr, before-append, append-before, less-or-more}
 
 -- ---- the letters of a word
@@ -23,6 +25,13 @@ use Rattle.sequence.proofs.OrderLaws.{before-irr, before-append, append
 pub length-letters : (l w : ℕ) → length (lettersOf l w) ≡ l
 length-letters zero w = refl
 length-letters (suc l) w = omega (arith, length-append (lettersOf l (w / 4)) (w % 4 ∷ []), length-letters l (w / 4))
+
+-- each is one of the four codes
+pub letters-coded : (l w : ℕ) {c : ℕ} → In c (lettersOf l w) → c < 4
+letters-coded zero w is = absurd (not-in-nil is)
+letters-coded (suc l) w is =
+    ⊎-elim (letters-coded l (w / 4)) (λ last. ⊎-elim (λ e. omega (arith, e)) (λ none. absurd (not-in-nil none)) (in-cons last))
+    (in-append (lettersOf l (w / 4)) is)
 
 -- words compare as their letters
 pub letters-before : (l w v : ℕ) → w < 4 ^ l → v < 4 ^ l → w < v → Before (lettersOf l w) (lettersOf l v)

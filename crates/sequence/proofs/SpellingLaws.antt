@@ -17,8 +17,9 @@ use Rattle.sequence.specs.Lists.{In, first}
 use Rattle.sequence.specs.Arrangement.{follows, Standing, nobody, stands, words}
 use Rattle.sequence.specs.Build.{lettersOf, spell}
 use Rattle.sequence.specs.Verdict.{Before}
+use Rattle.sequence.proofs.ListLaws.{not-in-nil, in-append, in-map}
 use Rattle.sequence.proofs.OrderLaws.{before-irr, before-append, append-before, before-or-after}
-use Rattle.sequence.proofs.LetterLaws.{length-letters, letters-before, letters-cons, overlap-is}
+use Rattle.sequence.proofs.LetterLaws.{length-letters, letters-coded, letters-before, letters-cons, overlap-is}
 
 pub data Chain (l : ℕ) : Option ℕ → List ℕ → Type 0 where
   ends : {p : Option ℕ} → Chain l p []
@@ -48,6 +49,13 @@ pub spell-length : (l : ℕ) (ws : List ℕ) → 0 < length ws → length (spell
 spell-length l [] h = absurd (omega arith)
 spell-length l (w ∷ ws) h =
     rw (spell-is l w ws) (omega (arith, length-append (lettersOf l w) (lasts ws), length-letters l w, length-map ws (λ x. x % 4)))
+
+-- each is one of the four codes
+pub spell-coded : (l : ℕ) (ws : List ℕ) {c : ℕ} → In c (spell l ws) → c < 4
+unfolding spell
+spell-coded l [] is = absurd (not-in-nil is)
+spell-coded l (w ∷ ws) is =
+    ⊎-elim (letters-coded l w) (λ last. let at = in-map (λ v. v % 4) ws last in omega (arith, at .2)) (in-append (lettersOf l w) is)
 
 -- without its first letter, a sequence is that of the other words
 spell-cons : {k w : ℕ} {ws : List ℕ} → Chain (suc k) (some w) ws → 0 < length ws

@@ -1,6 +1,6 @@
 -- `WritingLaws` has what this crate's proofs cite of the answers, `PuttingLaws` of the bytes, `ReadBackLaws` of a card that was written and
 -- is read, `AgainLaws` of one that was read and is written. `RoundTrip` has both round trips; `Apart` says that different
--- lists give different cards, `RefusalNumbers` that no refusal has the number 0, `Determined` that the contract has one outcome; `Examples`
+-- lists give different cards, `RefusalNumbers` by which numbers lists are refused, `Determined` that the contract has one outcome; `Examples`
 -- runs the definitions on the scope's card and edges.
 pub mod WritingLaws
 pub mod PuttingLaws

@@ -1,13 +1,14 @@
 -- The laws of the writer's answers that this crate's proofs cite. No contract cites this file. Assumes nothing.
-use mathlib.Core.Path.{_≡_, sym, ap, _∙_}
-use mathlib.Core.List.{List, _++_}
+use mathlib.Core.Path.{_≡_, refl, sym, ap, _∙_}
+use mathlib.Core.List.{List, [], _∷_, _++_}
 use Prim.Native.Nat.{ℕ, _≤_, _<_}
 use native.Mathlib.Omega.{arith}
 use lib.ListN.{length, drop}
+use lib.Dec.{leb}
 use borrow.Author.Tests.{le-leb, lt-leb, leb-true}
 use Rattle.answers.specs.declared.Refusal.{Refusal}
 use Rattle.answers.specs.Numbers.{Room}
-use Rattle.answers.specs.Answer.{given, refused, sound, first}
+use Rattle.answers.specs.Answer.{given, refused, sound, test, first}
 use Rattle.answers.proofs.Laws.{first-fail, first-last, first-passed, first-holds, first-refused, first-both, first-value}
 use Rattle.entries.specs.Slot.{slotFrom}
 use Rattle.layout.specs.Layout.{sizeOf}
@@ -21,13 +22,25 @@ use Rattle.writer.specs.Writing.{writing, saysWritten, Writes}
 
 -- ---- the three outcomes
 
+module _ (limit kind l : ℕ) (words ones twos : List ℕ) (room : ℕ) where
+  -- the tests of the lists answer, and then that of the room
+  pub writing-is : writing limit kind l words ones twos room
+      ≡ first (listsTests limit kind l words ones twos ++ (test (leb (sizeOf (length words)) room) Room 0 ∷ [])) (sizeOf (length words))
+  unfolding writing
+  writing-is = refl
+
+  -- lists that are refused are not written
+  pub lists-stop : {n p : ℕ} → first (listsTests limit kind l words ones twos) sound ≡ refused n p
+      → writing limit kind l words ones twos room ≡ refused n p
+  lists-stop e = writing-is ∙ first-refused _ _ (listsTests limit kind l words ones twos) e
+
 -- what the writer answers of lists that are accepted
 module _ {limit kind l : ℕ} {words ones twos : List ℕ} (room : ℕ) (has : Accepted limit kind l words ones twos) where
   room-refused : room < sizeOf (length words) → writing limit kind l words ones twos room ≡ refused Room 0
   unfolding writing
   room-refused h = first-holds _ _ (listsTests limit kind l words ones twos) (accepted-lists has) ∙ first-fail _ _ _ _ _ (lt-leb _ _ h)
 
-  card-given : sizeOf (length words) ≤ room → writing limit kind l words ones twos room ≡ given (sizeOf (length words))
+  pub card-given : sizeOf (length words) ≤ room → writing limit kind l words ones twos room ≡ given (sizeOf (length words))
   unfolding writing
   card-given h = first-holds _ _ (listsTests limit kind l words ones twos) (accepted-lists has) ∙ first-last _ _ _ _ (le-leb _ _ h)
 
@@ -40,8 +53,7 @@ module _ {limit kind l : ℕ} {words ones twos before : List ℕ} where
 
   pub lists-refused : {n : Refusal} → first (listsTests limit kind l words ones twos) sound ≡ refused (n .number) (n .place)
       → Writes limit kind l words ones twos before (Refused n) before
-  unfolding writing
-  lists-refused e = untouched (first-refused _ _ (listsTests limit kind l words ones twos) e)
+  lists-refused e = untouched (lists-stop limit kind l words ones twos (length before) e)
 
   module _ (has : Accepted limit kind l words ones twos) where
     pub no-room : length before < sizeOf (length words)
