@@ -2,10 +2,9 @@
 -- output and nothing on standard error; with any other name 20 is the refusal, and no other can come: the letters of a build are letters, there
 -- is one at least, and the record has room. With every other verdict nothing stands on standard output. Assumes nothing.
 use mathlib.Core.Path.{_≡_, refl, ap, _∙_}
-use mathlib.Core.Logic.{⊎-elim}
 use mathlib.Core.Bool.{true, false}
 use mathlib.Core.List.{List, [], _∷_, _++_, map}
-use Prim.Native.Nat.{ℕ, zero, suc, _/_, _%_, _≤_, _<_}
+use Prim.Native.Nat.{ℕ, _≤_, _<_}
 use native.Mathlib.Omega.{arith}
 use lib.ListN.{length, length-map, take, drop}
 use Rattle.answers.specs.Numbers.{Name}
@@ -21,10 +20,10 @@ use Rattle.layout.specs.Layout.{toldBy, slotOf}
 use Rattle.layout.proofs.Laws.{within-both}
 use Rattle.card.proofs.SoundLaws.{holds-reads}
 use Rattle.sequence.specs.Lists.{In, first, later}
-use Rattle.sequence.specs.Build.{lettersOf, spell, Build}
+use Rattle.sequence.specs.Build.{Build}
 use Rattle.sequence.specs.Arrangement.{words}
 use Rattle.sequence.specs.Verdict.{sole, several, noBuild, Outcome, settled, unsettled}
-use Rattle.sequence.proofs.ListLaws.{not-in-nil, in-cons, in-append, in-map}
+use Rattle.sequence.proofs.SpellingLaws.{spell-coded}
 use Rattle.sequence.proofs.BuildLaws.{build-length}
 use Rattle.pairs.specs.Settling as pairs
 use Rattle.spans.specs.Settling as spans
@@ -49,20 +48,7 @@ use Rattle.converting.specs.Fasta.{recordRoom, NotSole, fastaBy, ToFasta
 
 -- ---- the letters of a build
 
--- each is one of the four codes
-letters-coded : (l w : ℕ) {c : ℕ} → In c (lettersOf l w) → c < codes
-letters-coded zero w is = absurd (not-in-nil is)
-letters-coded (suc l) w {c} is =
-    ⊎-elim (letters-coded l (w / 4)) (λ last. ⊎-elim (λ e. omega (arith, e)) (λ none. absurd (not-in-nil none)) (in-cons last))
-    (in-append (lettersOf l (w / 4)) is)
-
-spell-coded : (l : ℕ) (ws : List ℕ) {c : ℕ} → In c (spell l ws) → c < codes
-unfolding spell
-spell-coded l [] is = absurd (not-in-nil is)
-spell-coded l (w ∷ ws) is =
-    ⊎-elim (letters-coded l w) (λ last. let at = in-map (λ v. v % 4) ws last in omega (arith, at .2)) (in-append (lettersOf l w) is)
-
--- so it is a letter
+-- each is one of the four codes (`spell-coded`), and so a letter
 all-letters : (s : List ℕ) → ((c : ℕ) → In c s → c < codes) → areAll isLetter (map letterOf s) ≡ true
 all-letters [] coded = all-none isLetter
 all-letters (c ∷ s) coded =

@@ -6,21 +6,19 @@ use lib.ListN.{length}
 use borrow.Author.Tests.{le-leb, lt-leb}
 use Rattle.answers.specs.declared.Refusal.{Refusal}
 use Rattle.answers.specs.Answer.{Answer, given, refused, outputAfter}
-use Rattle.answers.proofs.Laws.{first-value}
-use Rattle.entries.specs.Slot.{slotFrom}
 use Rattle.layout.specs.Layout.{sizeOf}
-use Rattle.layout.proofs.CardLaws.{length-card}
-use Rattle.lists.specs.Lists.{formatFor}
 use Rattle.text.specs.Text.{refusalLine, Printed}
 use Rattle.text.specs.Putting.{Put}
 use Rattle.text.proofs.PrintedLaws.{put-printed}
 use Rattle.writer.specs.declared.Written.{Written}
 use Rattle.writer.specs.declared.Written.the-variants as written
 use Rattle.writer.specs.Writing.{saysWritten}
-use Rattle.importing.specs.Importing.{kindIn, lettersIn, wordsIn, onesIn, twosIn, cardIn, importing, Imports}
+use Rattle.importing.specs.Importing.{cardIn, importing, Imports}
+use Rattle.importing.proofs.ImportingLaws.{card-long}
 use Rattle.exporting.specs.declared.Exported.{Exported}
 use Rattle.exporting.specs.declared.Exported.the-variants as exported
 use Rattle.exporting.specs.Exporting.{listOf, exporting, listRoom, saysExported, Exports}
+use Rattle.exporting.proofs.ExportLaws.{list-long}
 use Rattle.input.specs.Input.{mostList}
 use Rattle.converting.specs.Converting.{onErrors, byAnswer, tooLong, toCard, toList, Converted}
 
@@ -47,13 +45,6 @@ module _ (bytes out : List ℕ) {out′ err : List ℕ} {a : Answer ℕ} {n : �
       rw (e, same) (errors-written out put)
 
 -- ---- `list2card`
-
-card-long : (limit : ℕ) (list : List ℕ) (room : ℕ) {n : ℕ} → importing limit list room ≡ given n → n ≡ length (cardIn list)
-unfolding importing cardIn
-card-long limit list room e =
-    sym
-    (length-card (formatFor (kindIn list) (lettersIn list) (wordsIn list)) (slotFrom (wordsIn list) (onesIn list) (twosIn list))
-    ∙ first-value _ _ _ e)
 
 module _ {limit : ℕ} {list out out′ : List ℕ} {r : Written} (room : length out ≡ sizeOf limit) (short : length list ≤ mostList)
     (did : Imports limit list out r out′) where
@@ -89,10 +80,9 @@ module _ {limit : ℕ} {card out out′ : List ℕ} {r : Exported} (room : lengt
 
   pub list-written : {n : ℕ} {err : List ℕ} → r ≡ exported.Text n
       → Converted (toList limit card) out err (record { output = n; errors = 0 }) out′ err
-  unfolding exporting
   list-written is =
       let answer = sym (did .answer) ∙ ap saysExported is in
-      rw as-exported (given-written (listOf card) out (did .bytes) answer (sym (first-value _ _ _ answer)))
+      rw as-exported (given-written (listOf card) out (did .bytes) answer (list-long limit card (length out) answer))
 
   pub no-list-written : {x : Refusal} {n : ℕ} {err err′ : List ℕ} → r ≡ exported.Refused x
       → Put (refusalLine (x .number) (x .place)) 0 err n err′

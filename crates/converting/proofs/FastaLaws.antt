@@ -8,7 +8,6 @@ use types.Run.{OneOf, miss}
 use denote.Enum.Declared.{tagOf}
 use Rattle.answers.specs.declared.Refusal.{Refusal}
 use Rattle.answers.specs.Answer.{Answer, given, refused}
-use Rattle.answers.proofs.Laws.{first-value}
 use Rattle.sequence.specs.Verdict.{sole, several, noBuild, Outcome, settled, unsettled}
 use Rattle.text.specs.Text.{refusalLine}
 use Rattle.text.specs.Putting.{Put}
@@ -16,6 +15,7 @@ use Rattle.fasta.specs.declared.writing.Recorded.{Recorded}
 use Rattle.fasta.specs.declared.writing.Recorded.the-variants as recorded
 use Rattle.fasta.specs.Record.{recordOf}
 use Rattle.fasta.specs.Writing.{writing, saysRecorded, Writes}
+use Rattle.fasta.proofs.ByTests.{writing-long}
 use Rattle.builds.specs.declared.BuildAnswer.{BuildAnswer}
 use Rattle.builds.specs.declared.BuildAnswer.the-variants.{Sole, Several, None, Unsettled, Refused}
 use Rattle.builds.proofs.BuildAnswer.{the-type}
@@ -34,10 +34,9 @@ use Rattle.converting.proofs.ConvertingLaws.{errors-written, given-writ
 module _ {name ls out out′ : List ℕ} {r : Recorded} {room : ℕ} (long : length out ≡ room) (did : Writes name ls out r out′) where
   pub record-written : {n : ℕ} {err : List ℕ} → r ≡ recorded.Record n
       → Converted (byAnswer (recordOf name ls) (writing name ls room)) out err (record { output = n; errors = 0 }) out′ err
-  unfolding writing
   record-written is =
       let answer = sym (did .answer) ∙ ap saysRecorded is in
-      rw (sym long) (given-written (recordOf name ls) out (did .bytes) answer (sym (first-value _ _ _ answer)))
+      rw (sym long) (given-written (recordOf name ls) out (did .bytes) answer (writing-long name ls (length out) answer))
 
   pub no-record-written : {x : Refusal} {n : ℕ} {err err′ : List ℕ} → r ≡ recorded.Refused x
       → Put (refusalLine (x .number) (x .place)) 0 err n err′

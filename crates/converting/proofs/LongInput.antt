@@ -9,16 +9,16 @@ use native.Mathlib.Omega.{arith}
 use lib.ListN.{length, take}
 use lib.Seq.{take-all, length-take-le}
 use borrow.Author.Tests.{lt-leb}
-use Rattle.answers.specs.Answer.{given, refused, outputAfter}
-use Rattle.answers.proofs.Laws.{first-refused}
-use Rattle.card.specs.Reading.{readingOrder}
+use Rattle.answers.specs.Answer.{given, outputAfter}
+use Rattle.card.proofs.FetchingLaws.{admission-refused}
 use Rattle.card.proofs.FrontLaws.{Alike, enough, needed}
 use Rattle.layout.specs.Bounds.{mostEntries}
 use Rattle.writer.specs.declared.Written.the-variants.{Card}
 use Rattle.probes.proofs.NumberLaws.{lt-or-le}
 use Rattle.importing.specs.Importing.{cardIn, importing, Imports}
 use Rattle.importing.proofs.Imported.{imported-short}
-use Rattle.exporting.specs.Exporting.{exporting, listRoom}
+use Rattle.exporting.specs.Exporting.{listRoom}
+use Rattle.exporting.proofs.ExportLaws.{card-refused}
 use Rattle.input.specs.Input.{programBytes, mostList, listBytes}
 use Rattle.lines.proofs.LongInput.{said-too}
 use Rattle.converting.specs.declared.Lengths.{Lengths}
@@ -28,12 +28,10 @@ use Rattle.converting.specs.Fasta.{ToFasta}
 -- ---- a card
 
 alike-written : (limit : ℕ) (card other : List ℕ) → Alike limit card other → toList limit card ≡ toList limit other
-unfolding toList exporting
+unfolding toList
 alike-written limit card other alike =
-    let here : exporting limit card (listRoom limit) ≡ refused (alike .number) (alike .place) =
-    first-refused _ _ (readingOrder limit card) (alike .here) in
-    let there : exporting limit other (listRoom limit) ≡ refused (alike .number) (alike .place) =
-    first-refused _ _ (readingOrder limit other) (alike .there) in
+    let here = card-refused limit card (listRoom limit) (admission-refused limit card (alike .here)) in
+    let there = card-refused limit other (listRoom limit) (admission-refused limit other (alike .there)) in
     rw (here, there) refl
 
 pub front-enough : (limit : ℕ) (card : List ℕ) → toList limit (take (programBytes limit) card) ≡ toList limit card

@@ -6,9 +6,9 @@ use Prim.Native.Nat.{ℕ}
 use lib.ListN.{take}
 use Rattle.answers.specs.Answer.{Answer, refused, sound, first}
 use Rattle.answers.proofs.Laws.{given-not-refused}
-use Rattle.layout.specs.Layout.{formatOf}
+use Rattle.entries.specs.declared.Format.{Format}
 use Rattle.card.specs.Reading.{readingOrder}
-use Rattle.card.proofs.FrontLaws.{Alike, enough, needed}
+use Rattle.card.proofs.FrontLaws.{Alike, alike-told, enough, needed}
 use Rattle.sequence.specs.Many.{Power}
 use Rattle.sequence.specs.Verdict.{Outcome}
 use Rattle.builds.specs.Building.{buildTests, Says, tells, refuses}
@@ -33,7 +33,7 @@ module _ {limit : ℕ} {card other : List ℕ} (alike : Alike limit card other) 
   reported-too too r = record {
     said = r .said;
     says = too (r .said) (r .says);
-    printed = r .printed ∙ ap (λ (b : List ℕ). linesOf (formatOf b) (r .said)) (sym (alike .block));
+    printed = r .printed ∙ ap (λ (f : Format). linesOf f (r .said)) (alike-told alike);
   }
 
   building-refused : (room : ℕ)

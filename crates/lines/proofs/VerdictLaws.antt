@@ -1,7 +1,9 @@
--- Laws of line 2: by an answer and the letters that it left, and by what is said of the card. No contract cites this file. Assumes nothing.
+-- Laws of line 2: by an answer and the letters that it left, and by what is said of the card; that it is not the line of a refusal. No contract
+-- cites this file. Assumes nothing.
 use mathlib.Core.Path.{_≡_, refl}
 use mathlib.Core.List.{List, _++_, map}
 use Prim.Native.Nat.{ℕ, _≤_}
+use Prim.Native.Char.{code}
 use native.Mathlib.Omega.{arith}
 use lib.ListN.{length, drop, length-append, length-map}
 use Rattle.answers.specs.Answer.{Answer, given, refused}
@@ -10,7 +12,9 @@ use Rattle.sequence.specs.Verdict.{sole, several, noBuild, Outcome, settled, un
 use Rattle.builds.specs.declared.BuildAnswer.{BuildAnswer}
 use Rattle.builds.specs.Building.{answerOf, lettersAfter}
 use Rattle.builds.proofs.FromLaws.{letters-start}
+use Rattle.text.specs.Text.{refusalLine}
 use Rattle.text.specs.Putting.{Put}
+use Rattle.text.proofs.RefusalLaws.{refusal-begins}
 use Rattle.lines.specs.Lines.{verdictLine}
 use Rattle.lines.specs.ByAnswer.{verdictBy, lengthIn}
 
@@ -43,3 +47,12 @@ module _ (before : List ℕ) where
   length-said (given (settled noBuild n)) = omega arith
   length-said (given (unsettled n)) = omega arith
   length-said (refused n p) = omega arith
+
+-- ---- it is no refusal's line
+
+pub verdict-other : (o : Outcome) (n p : ℕ) → verdictLine o ≡ refusalLine n p → ⊥
+unfolding verdictLine
+verdict-other (settled (sole s) k) n p e = let z : code "s" ≡ code "r" = refusal-begins n p e in omega arith
+verdict-other (settled (several s) k) n p e = let z : code "s" ≡ code "r" = refusal-begins n p e in omega arith
+verdict-other (settled noBuild k) n p e = let z : code "n" ≡ code "r" = refusal-begins n p e in omega arith
+verdict-other (unsettled k) n p e = let z : code "u" ≡ code "r" = refusal-begins n p e in omega arith
