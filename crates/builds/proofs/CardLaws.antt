@@ -6,12 +6,13 @@ use Prim.Native.Nat.{ℕ, _+_, _≤_, _<_}
 use native.Mathlib.Omega.{arith}
 use lib.ListN.{length, take}
 use lib.Dec.{leb}
-use borrow.Author.Tests.{le-leb, lt-leb}
+use borrow.Author.Tests.{le-leb, lt-leb, leb-true}
 use Rattle.answers.specs.declared.Refusal.{Refusal}
 use Rattle.answers.specs.Numbers.{Room}
 use Rattle.answers.specs.Answer.{given, refused, first, sound}
 use Rattle.answers.specs.Row.{row}
-use Rattle.answers.proofs.Laws.{first-holds, first-refused, first-both, first-last, first-fail}
+use Rattle.answers.proofs.Laws.{first-holds, first-refused, first-both, first-passed, first-last, first-fail}
+use Rattle.answers.proofs.Only.{Only, none, also, only-append}
 use Rattle.answers.proofs.RowLaws.{row-same}
 use Rattle.entries.specs.declared.Format.{Format}
 use Rattle.entries.specs.Slot.{slotFrom, entriesIn}
@@ -22,6 +23,7 @@ use Rattle.card.specs.declared.Admitted.the-variants.{Card, Refused}
 use Rattle.card.specs.Reading.{readingOrder}
 use Rattle.card.specs.Fetching.{admission, saysAdmitted}
 use Rattle.card.specs.Listing.{Listed}
+use Rattle.card.proofs.RefusalNumbers.{order-only}
 use Rattle.card.proofs.FetchingLaws.{admission-admits}
 use Rattle.card.proofs.ListingLaws.{listed-admitted, listed-words, listed-ones, listed-twos, listed-not-admitted}
 use Rattle.lists.proofs.Laws.{accepted-lists}
@@ -42,6 +44,17 @@ module _ (limit : ℕ) (card : List ℕ) (room : ℕ) where
   pub order-held : first (buildTests limit card room) sound ≡ given sound → first (readingOrder limit card) sound ≡ given sound
   unfolding buildTests
   order-held e = first-both _ sound (readingOrder limit card) sound e .0
+
+  pub room-held : first (buildTests limit card room) sound ≡ given sound → lettersIn (toldBy card) ≤ room
+  unfolding buildTests
+  room-held e =
+      leb-true _ room (first-passed (leb _ room) Room 0 [] sound sound (first-both _ sound (readingOrder limit card) sound e .1) .0)
+
+  -- by which numbers they refuse: the reader's, and 12
+  pub build-only : {P : ℕ → Type 0} → ((n : ℕ) → 0 < n → n ≤ Room → P n) → Only P (buildTests limit card room)
+  unfolding buildTests
+  build-only number =
+      only-append (order-only (λ n above below. number n above (omega arith)) limit card) (also (number Room (omega arith) (omega arith)) none)
 
   module _ (e : first (readingOrder limit card) sound ≡ given sound) where
     pub no-room : room < lettersIn (toldBy card) → first (buildTests limit card room) sound ≡ refused Room 0

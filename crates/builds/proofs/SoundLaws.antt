@@ -7,17 +7,14 @@ use native.Mathlib.Omega.{arith}
 use lib.ListN.{length}
 use lib.Dec.{eqb}
 use borrow.Author.Tests.{eqb-true, leb-true}
-use Rattle.answers.proofs.RowLaws.{length-row}
 use Rattle.answers.proofs.Tests.{both}
-use Rattle.entries.specs.Slot.{slotFrom, entriesIn}
+use Rattle.entries.specs.Slot.{entriesIn}
 use Rattle.entries.specs.Fault.{pair, span, leastLength, mostLength}
 use Rattle.layout.specs.Bounds.{leastEntries, mostEntries}
 use Rattle.lists.specs.Lists.{Accepted}
 use Rattle.lists.proofs.Laws.{lists-accepted}
 use Rattle.lists.proofs.KindLaws.{SpanLists, PairLists, lists-span, lists-pair}
-use Rattle.sequence.proofs.ListLaws.{in-row}
 use Rattle.spans.specs.Settling as spans
-use Rattle.pairs.specs.Settling as pairs
 use Rattle.spelling.specs.Spelling.{Spells}
 use Rattle.tables.specs.Spans.{Spans}
 use Rattle.pairing.specs.Paired.{PairCard}
@@ -95,15 +92,3 @@ module _ {l : ℕ} {words ones twos : List ℕ} (s : Sound pair l words ones two
     fits = of-pairs .word-fits;
     holds = of-pairs .places-fit;
   }
-
-  pub pairs-entered : pairs.Entered l (entriesIn words ones twos)
-  unfolding slotFrom
-  pairs-entered =
-      let many = length-row (slotFrom words ones twos) 0 (length words) in
-      record {
-        some-entry = omega (arith, of-pairs .some, many);
-        fits = λ e h. let u = in-row (slotFrom words ones twos) 0 (length words) h in
-            rw (u .2) (of-pairs .word-fits (u .0) (omega (arith, u .1)));
-        holds = λ e h. let u = in-row (slotFrom words ones twos) 0 (length words) h in
-            rw many (rw (u .2) (of-pairs .places-fit (u .0) (omega (arith, u .1))));
-      }

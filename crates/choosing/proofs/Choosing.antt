@@ -308,9 +308,6 @@ module _ {c : Pairs} {put trail : List ℕ} {n t : ℕ} (i : Inside c) (k : Clos
     pub weighed-shape : Trail (c .m) put′ trail′ n
     weighed-shape = rw (g .0) (g .1)
 
-    pub weighed-closed : Closed c (of put′)
-    weighed-closed = rw (g .0) k
-
     pub choose-weighed-none : j ≡ 0 → Chooses c put t 0 0 put′ trail′ n false
     choose-weighed-none z = chooses-none (omega arith) weighed-shape (none-there i k l (g .2 .none z))
 

@@ -1,16 +1,17 @@
 -- The line of a sound entry is fine, and stands for the entry. Assumes nothing.
 use mathlib.Core.Path.{_≡_, refl, sym}
-use mathlib.Core.Logic.{_⊎_, inl, inr}
-use mathlib.Core.Bool.{Bool, true, false, cond, _&&_, _||_}
+use mathlib.Core.Logic.{_⊎_, inl, inr, ⊎-elim}
+use mathlib.Core.Bool.{true, false}
 use mathlib.Core.List.{List, [], _∷_, _++_}
 use Prim.Native.Nat.{ℕ, zero, suc, _+_, _-_, _/_, _%_, _≤_, _<_}
 use native.Mathlib.Omega.{arith}
 use lib.Dec.{leb, ltb, eqb}
-use borrow.Author.Tests.{ltb-true, le-leb, lt-ltb, ne-eqb, eqb-true}
+use borrow.Author.Tests.{le-leb, lt-ltb, eq-eqb, ne-eqb}
 use Rattle.answers.proofs.Tests.{both}
 use Rattle.letters.specs.Letters.{codes}
 use Rattle.entries.specs.declared.Slot.{Slot}
-use Rattle.entries.specs.Fault.{pair, span, noPlace, widest, pairHolds, spanHolds}
+use Rattle.entries.specs.Fault.{pair, span, noPlace, pairHolds, spanHolds}
+use Rattle.entries.proofs.Laws.{pair-says, span-says}
 use Rattle.sequence.specs.Build.{lettersOf}
 use Rattle.probes.specs.declared.line.Marked.{Marked}
 use Rattle.probes.specs.declared.line.Marked.the-variants.{Bare, Two, Run}
@@ -82,21 +83,14 @@ back-one s g e = record {
 
 module _ (m : ℕ) (few : m ≤ mostNumber) (s : Slot) where
   pub span-back : spanHolds m (s .one) (s .two) ≡ true → Back span s (listedFor span s)
-  unfolding spanHolds listedFor
-  span-back h =
-      let outer = both (ltb (s .one) m && ltb (s .two) m && leb (s .one) (s .two)) (leb (s .two - s .one + 1) widest) h in
-      let inner = both (ltb (s .one) m && ltb (s .two) m) (leb (s .one) (s .two)) (outer .0) in
-      let places = both (ltb (s .one) m) (ltb (s .two) m) (inner .0) in
-      back-span s (omega (arith, ltb-true (s .one) m (places .0))) (omega (arith, ltb-true (s .two) m (places .1)))
+  unfolding listedFor
+  span-back h = let says = span-says h in back-span s (omega (arith, says .in-order, says .below)) (omega (arith, says .below))
 
   pub pair-back : pairHolds m (s .one) (s .two) ≡ true → Back pair s (listedFor pair s)
-  unfolding pairHolds listedFor
+  unfolding listedFor
   pair-back h =
-      let parts = both (ltb (s .one) m) _ h in
-      let first : s .one < mostNumber = omega (arith, ltb-true (s .one) m (parts .0)) in
-      go first (eqb (s .two) noPlace) refl (parts .1)
-    where
-      go : s .one < mostNumber → (t : Bool) → eqb (s .two) noPlace ≡ t → (t || (ltb (s .one) (s .two) && ltb (s .two) m)) ≡ true
-          → Back pair s (cond t (Bare (s .one + 1)) (Two (s .one + 1) (s .two + 1)))
-      go first true q e = back-one s first (eqb-true (s .two) noPlace q)
-      go first false q e = back-two s first (omega (arith, ltb-true (s .two) m (both (ltb (s .one) (s .two)) (ltb (s .two) m) e .1)))
+      let says = pair-says h in
+      let first : s .one < mostNumber = omega (arith, says .0) in
+      ⊎-elim (λ e. rw (eq-eqb (s .two) noPlace e) (back-one s first e))
+      (λ e. rw (ne-eqb (s .two) noPlace (λ q. omega (arith, q, e .1))) (back-two s first (omega (arith, e .1))))
+      (says .1)

@@ -1,32 +1,27 @@
 -- Laws of settling a card that was admitted into lists: what is answered from them is what is answered from the card. Assumes nothing.
 use mathlib.Core.Path.{_≡_, sym, ap, _∙_}
-use mathlib.Core.List.{List, [], _∷_}
+use mathlib.Core.List.{List}
 use Prim.Native.Nat.{ℕ, _≤_}
 use lib.ListN.{length, take}
-use lib.Dec.{leb}
 use Rattle.answers.specs.declared.Refusal.{Refusal}
-use Rattle.answers.specs.Numbers.{Room}
-use Rattle.answers.specs.Answer.{Answer, given, test, first, sound}
-use Rattle.answers.proofs.Laws.{first-holds}
+use Rattle.answers.specs.Answer.{Answer, given, first, sound}
 use Rattle.entries.specs.declared.Format.{Format}
 use Rattle.layout.specs.Bounds.{mostEntries}
 use Rattle.card.specs.declared.Admitted.{Admitted}
 use Rattle.card.specs.declared.Admitted.the-variants.{Card, Refused}
-use Rattle.card.specs.Reading.{readingOrder}
 use Rattle.card.specs.Fetching.{admission, saysAdmitted}
 use Rattle.card.specs.Listing.{Listed}
 use Rattle.card.proofs.FetchingLaws.{admission-admits}
 use Rattle.card.proofs.ListingLaws.{listed-admitted, listed-words, listed-ones, listed-twos, listed-not-admitted}
-use Rattle.lists.specs.Lists.{listsTests}
 use Rattle.lists.proofs.Laws.{accepted-lists}
 use Rattle.lists.proofs.AdmittedLaws.{itsWords, itsOnes, itsTwos, its-accepted, format-same}
 use Rattle.sequence.specs.Verdict.{Outcome}
 use Rattle.builds.specs.declared.BuildAnswer.{BuildAnswer}
 use Rattle.builds.specs.declared.BuildAnswer.the-variants as is
-use Rattle.builds.specs.Building.{lettersIn, buildTests, slotsOn, answerOf}
+use Rattle.builds.specs.Building.{buildTests, slotsOn, answerOf}
 use Rattle.builds.proofs.CardLaws.{reader-refuses, its-entries}
 use Rattle.narrow.specs.Settling.{listsBuildTests, Settled, OfCard, OfLists, Settles}
-use Rattle.narrow.proofs.TestLaws.{tests-refuse}
+use Rattle.narrow.proofs.TestLaws.{tests-refuse, build-as-card}
 use Rattle.narrow.proofs.SettlingLaws.{refused-settles, other-tests}
 
 -- ---- the same from a card and from its lists
@@ -37,14 +32,13 @@ module _ (card : List ℕ) {f : Format} (admitted : admission mostEntries card �
       → first (listsBuildTests mostEntries (f .kind) (f .l) (itsWords mostEntries card admitted) (itsOnes mostEntries card admitted)
       (itsTwos mostEntries card admitted) room) sound
       ≡ first (buildTests mostEntries card room) sound
-  unfolding buildTests listsBuildTests
   its-tests room =
       let had = admission-admits mostEntries card admitted in
-      let lists = listsTests mostEntries (f .kind) (f .l) (itsWords mostEntries card admitted) (itsOnes mostEntries card admitted)
-      (itsTwos mostEntries card admitted) in
-      first-holds _ sound lists (accepted-lists (its-accepted mostEntries card admitted))
-      ∙ ap (λ (g : Format). first (test (leb (lettersIn g) room) Room 0 ∷ []) sound) (format-same mostEntries card admitted ∙ had .told)
-      ∙ sym (first-holds _ sound (readingOrder mostEntries card) (had .order))
+      build-as-card mostEntries (f .kind) (f .l) (itsWords mostEntries card admitted) (itsOnes mostEntries card admitted)
+      (itsTwos mostEntries card admitted) room card
+      (accepted-lists (its-accepted mostEntries card admitted))
+      (had .order)
+      (sym (format-same mostEntries card admitted ∙ had .told))
 
   its-settled : (room : ℕ) {a : Answer Outcome}
       → OfLists mostEntries (f .kind) (f .l) (itsWords mostEntries card admitted) (itsOnes mostEntries card admitted)

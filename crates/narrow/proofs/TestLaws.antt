@@ -1,7 +1,7 @@
 -- Laws of the tests of settling: the widths one by one, the tests before them, and what lists that pass them all are. Assumes nothing.
 use mathlib.Core.Path.{_≡_, refl, sym, ap, _∙_}
-use mathlib.Core.Logic.{_⊎_, inl, inr}
-use mathlib.Core.Bool.{Bool, true, false, cond}
+use mathlib.Core.Logic.{_⊎_, inl, inr, ⊎-elim}
+use mathlib.Core.Bool.{Bool, true, false}
 use mathlib.Core.List.{List, [], _∷_}
 use Prim.Native.Nat.{ℕ, zero, suc, _+_, _-_, _≤_, _<_}
 use native.Mathlib.Omega.{arith}
@@ -10,18 +10,24 @@ use borrow.Author.Tests.{eqb-true, eq-eqb, ne-eqb, leb-true, leb-false, le-leb, 
 use Rattle.answers.specs.Numbers.{Kind, Room, Wider}
 use Rattle.answers.specs.Answer.{Answer, given, refused, Sound, sound, Test, test, first}
 use Rattle.answers.specs.Row.{row, inTurn}
-use Rattle.answers.proofs.Laws.{first-holds, first-refused, first-both, first-pass, first-passed, first-last, first-fail, given-not-refused}
-use Rattle.answers.proofs.Only.{Numbered, none, also, only-append}
+use Rattle.answers.proofs.Laws.{first-holds, first-refused, first-both, first-pass, first-passed, first-last, first-fail, turns-hold}
+use Rattle.answers.proofs.Only.{Only, Numbered, none, also, only-append, only-refused}
+use Rattle.answers.proofs.RowLaws.{row-none, row-first, turns-none, turns-first}
+use Rattle.answers.proofs.TurnLaws.{first-cases, none-refuse, turns-fault, fault-turns}
 use Rattle.entries.specs.declared.Slot.{Slot}
 use Rattle.entries.specs.Slot.{entriesIn}
 use Rattle.entries.specs.Fault.{span}
 use Rattle.layout.specs.Bounds.{mostEntries}
+use Rattle.layout.specs.Layout.{toldBy}
+use Rattle.card.specs.Reading.{readingOrder}
 use Rattle.lists.specs.Lists.{formatFor, listsTests}
 use Rattle.lists.proofs.Laws.{lists-numbered}
 use Rattle.sequence.specs.Lists as members
+use Rattle.sequence.proofs.ListLaws.{row-in}
 use Rattle.layers.specs.Narrow.{widestNarrow, isNarrow, Narrow}
-use Rattle.builds.specs.Building.{lettersIn}
+use Rattle.builds.specs.Building.{lettersIn, buildTests}
 use Rattle.builds.specs.From as builds
+use Rattle.builds.proofs.CardLaws.{no-room, has-room}
 use Rattle.narrow.specs.Settling.{widthTests, listsBuildTests, settleTests}
 use Rattle.narrow.specs.Passing.{Passes}
 
@@ -40,9 +46,11 @@ widthTest f e = test (isNarrow (f e)) Wider e ∷ []
 
 -- those of all are each in turn
 pub widths-in-turn : (f : ℕ → Slot) (k n : ℕ) → widthTests k (row f k n) ≡ inTurn (widthTest f) k n
-unfolding widthTests row inTurn
-widths-in-turn f k zero = refl
-widths-in-turn f k (suc n) = ap (λ (ts : List Test). test (isNarrow (f k)) Wider k ∷ ts) (widths-in-turn f (suc k) n)
+unfolding widthTests
+widths-in-turn f k zero = rw (row-none f k, turns-none (widthTest f) k) refl
+widths-in-turn f k (suc n) =
+    rw (row-first f k n, turns-first (widthTest f) k n)
+    (ap (λ (ts : List Test). test (isNarrow (f k)) Wider k ∷ ts) (widths-in-turn f (suc k) n))
 
 -- where they hold each span is narrow
 pub widths-narrow : (k : ℕ) (es : List Slot) → first (widthTests k es) sound ≡ given sound → Narrow es
@@ -53,22 +61,43 @@ widths-narrow k es e = record { each = λ s i. go k es e i }
     go k (s ∷ es) e members.first = first-passed (isNarrow s) Wider k (widthTests (suc k) es) sound sound e .0
     go k (s ∷ es) e (members.later i) = go (suc k) es (first-passed (isNarrow s) Wider k (widthTests (suc k) es) sound sound e .1) i
 
-widths-numbered : (k : ℕ) (es : List Slot) → Numbered (widthTests k es)
-unfolding widthTests
-widths-numbered k [] = none
-widths-numbered k (s ∷ es) = also {n = Wider} (omega arith) (widths-numbered (suc k) es)
+-- and where each span is narrow they hold
+pub narrow-widths : (f : ℕ → Slot) (n : ℕ) → Narrow (row f 0 n) → first (widthTests 0 (row f 0 n)) sound ≡ given sound
+narrow-widths f n narrow =
+    rw (widths-in-turn f 0 n)
+    (turns-hold (widthTest f) n 0 (λ i h.
+    first-last (isNarrow (f (0 + i))) Wider (0 + i) sound (narrow .each (f (0 + i)) (row-in f 0 n (0 + i) (omega arith) (omega arith)))))
 
 -- they refuse by 30
-widths-refusals : (k : ℕ) (es : List Slot) {n p : ℕ} → first (widthTests k es) sound ≡ refused n p → n ≡ Wider
-unfolding widthTests first
-widths-refusals k [] e = absurd (given-not-refused e)
-widths-refusals k (s ∷ es) {n} {p} e = go (isNarrow s) (λ f. widths-refusals (suc k) es f) e
-  where
-    go : (b : Bool) → (first (widthTests (suc k) es) sound ≡ refused n p → n ≡ Wider)
-        → cond b (first (widthTests (suc k) es) sound) (refused Wider k) ≡ refused n p
-        → n ≡ Wider
-    go true later f = later f
-    go false later f = cc
+widths-only : {P : ℕ → Type 0} → P Wider → (k : ℕ) (es : List Slot) → Only P (widthTests k es)
+unfolding widthTests
+widths-only wider k [] = none
+widths-only wider k (s ∷ es) = also wider (widths-only wider (suc k) es)
+
+-- at the first of the entries f 0, f 1, … that is not narrow
+module _ (f : ℕ → Slot) (n : ℕ) where
+  pub wide-refused : {e : ℕ} → e < n → isNarrow (f e) ≡ false → ((i : ℕ) → i < e → isNarrow (f i) ≡ true)
+      → first (widthTests 0 (row f 0 n)) sound ≡ refused Wider e
+  wide-refused {e} there wide earlier =
+      let here : (i : ℕ) → 0 + i ≡ i = λ i. omega arith in
+      rw (widths-in-turn f 0 n)
+      (fault-turns (record {
+        at = e;
+        within = there;
+        before = λ i h. first-last (isNarrow (f (0 + i))) Wider (0 + i) sound (rw (here i) (earlier i h));
+        fails = rw (here e) (first-fail (isNarrow (f e)) Wider e [] sound wide);
+      }))
+
+  pub refused-wide : {q e : ℕ} → first (widthTests 0 (row f 0 n)) sound ≡ refused q e
+      → (e < n) × (isNarrow (f e) ≡ false) × ((i : ℕ) → i < e → isNarrow (f i) ≡ true)
+  refused-wide {q} {e} h =
+      let fault = turns-fault (widthTest f) 0 n (rw (widths-in-turn f 0 n) at h) in
+      let here : (i : ℕ) → 0 + i ≡ i = λ i. omega arith in
+      let earlier : (i : ℕ) → i < fault .at → isNarrow (f i) ≡ true =
+      λ i g. first-passed (isNarrow (f i)) Wider i [] sound sound (rw (here i) at (fault .before i g)) .0 in
+      ⊎-elim (λ w. let same : fault .at ≡ e = omega (arith, w .2) in rw (← same) (fault .within, rw (here (fault .at)) at (w .0), earlier))
+      (λ w. absurd (none-refuse (w .1)))
+      (first-cases _ _ _ [] sound (fault .fails))
 
 -- ---- the kind, and then the widths
 
@@ -87,12 +116,18 @@ module _ (kind : ℕ) (es : List Slot) where
       let b = first-passed (eqb kind span) Kind 0 (widthTests 0 es) sound sound e in
       (eqb-true kind span (b .0), widths-narrow 0 es (b .1))
 
+  -- 30 is a width's
+  pub span-refused-wide : {e : ℕ} → first (spanTests kind es) sound ≡ refused Wider e
+      → (kind ≡ span) × (first (widthTests 0 es) sound ≡ refused Wider e)
+  span-refused-wide h =
+      ⊎-elim (λ w. absurd (omega (arith, w .1))) (λ w. (eqb-true kind span (w .0), w .1)) (first-cases _ _ _ (widthTests 0 es) sound h)
+
   -- they refuse by 5 or by 30
   span-refusals : {n p : ℕ} → first (spanTests kind es) sound ≡ refused n p → (n ≡ Kind) ⊎ (n ≡ Wider)
   span-refusals {n} {p} = go (eqb kind span)
     where
       go : (b : Bool) → first (test b Kind 0 ∷ widthTests 0 es) sound ≡ refused n p → (n ≡ Kind) ⊎ (n ≡ Wider)
-      go true e = inr (widths-refusals 0 es (sym (first-pass true Kind 0 (widthTests 0 es) sound refl) ∙ e))
+      go true e = inr (only-refused (widths-only {P = λ k. k ≡ Wider} refl 0 es) sound (sym (first-pass true Kind 0 (widthTests 0 es) sound refl) ∙ e))
       go false e = let same = sym (first-fail false Kind 0 (widthTests 0 es) sound refl) ∙ e in inl (cc)
 
 -- ---- tests of building, and then these
@@ -113,7 +148,7 @@ module _ (kind : ℕ) (es : List Slot) (ts : List Test) where
 
   pub tests-numbered : Numbered ts → Numbered (settleTests kind es ts)
   unfolding settleTests
-  tests-numbered h = only-append h (also {n = Kind} (omega arith) (widths-numbered 0 es))
+  tests-numbered h = only-append h (also {n = Kind} (omega arith) (widths-only (omega arith) 0 es))
 
   -- tests of building that answer the same
   pub tests-same : (ts′ : List Test) → first ts sound ≡ first ts′ sound
@@ -166,6 +201,18 @@ module _ (limit kind l : ℕ) (words ones twos : List ℕ) (room : ℕ) where
     unfolding listsBuildTests
     lists-has-room h =
         first-holds _ sound (listsTests limit kind l words ones twos) e ∙ first-last (leb _ room) Room 0 sound (le-leb _ room h)
+
+  -- a card of the same format that the reader admits answers the same
+  pub build-as-card : (card : List ℕ) → first (listsTests limit kind l words ones twos) sound ≡ given sound
+      → first (readingOrder limit card) sound ≡ given sound
+      → toldBy card ≡ formatFor kind l words
+      → first (listsBuildTests limit kind l words ones twos room) sound ≡ first (buildTests limit card room) sound
+  build-as-card card hold order told = go (leb (lettersIn (formatFor kind l words)) room) refl
+    where
+      go : (b : Bool) → leb (lettersIn (formatFor kind l words)) room ≡ b
+          → first (listsBuildTests limit kind l words ones twos room) sound ≡ first (buildTests limit card room) sound
+      go true e = let fits = leb-true _ room e in lists-has-room hold fits ∙ sym (has-room limit card room order (rw told fits))
+      go false e = let short = leb-false _ room e in lists-no-room hold short ∙ sym (no-room limit card room order (rw told short))
 
 -- ---- lists that pass every test
 
