@@ -3,16 +3,14 @@
 use mathlib.Core.Path.{_≡_, refl, ap, _∙_}
 use mathlib.Core.List.{List, map}
 use Prim.Native.Nat.{ℕ, _≤_}
-use Rattle.answers.specs.Answer.{Answer, Sound, given, first, sound}
-use Rattle.answers.specs.Row.{row, inTurn}
+use Rattle.answers.specs.Answer.{given, first, sound}
 use Rattle.entries.specs.declared.Format.{Format}
 use Rattle.entries.specs.Slot.{slotFrom, entriesIn}
-use Rattle.entries.specs.Fault.{pairHolds, spanHolds, placesHold, entryTests}
 use Rattle.layout.specs.Bounds.{mostEntries}
 use Rattle.layout.specs.Layout.{toldBy}
 use Rattle.layout.specs.Card.{cardOf}
 use Rattle.layout.proofs.LaidLaws.{card-told}
-use Rattle.lists.specs.Lists.{formatFor, listsTests}
+use Rattle.lists.specs.Lists.{formatFor}
 use Rattle.lists.proofs.Laws.{lists-accepted}
 use Rattle.writer.proofs.ReadBackLaws.{accepted-order}
 use Rattle.sequence.specs.Lists.{In}
@@ -23,21 +21,9 @@ use Rattle.builds.specs.Building.{lettersIn, buildTests, entriesOn}
 use Rattle.builds.proofs.CardLaws.{has-room}
 use Rattle.demands.specs.Demanded.{kindOf, OnCard, Widened}
 use Rattle.demands.proofs.MeaningLaws.{made-slots}
+use Rattle.demands.proofs.Examples.{wordsOf, onesOf, twosOf, tested, all-hold, all-stored}
 
 -- ---- a card of each table
-
--- a table's lists, and what is said of them
-abbrev pub wordsOf : Table → List ℕ
-wordsOf t = map (λ s. s .word) (storedIn t)
-
-abbrev pub onesOf : Table → List ℕ
-onesOf t = map (λ s. s .one) (storedIn t)
-
-abbrev pub twosOf : Table → List ℕ
-twosOf t = map (λ s. s .two) (storedIn t)
-
-abbrev pub tested : Table → Answer Sound
-tested t = first (listsTests mostEntries (kindOf t) 2 (wordsOf t) (onesOf t) (twosOf t)) sound
 
 -- tables whose lists hold and have their entries have cards
 card-with : (t : Table) → tested t ≡ given sound → entriesIn (wordsOf t) (onesOf t) (twosOf t) ≡ storedIn t
@@ -62,15 +48,6 @@ pub cards-of : (ts : List Table) → map tested ts ≡ map (λ t. given sound) t
     × ((room : ℕ) → lettersIn (toldBy card) ≤ room → first (buildTests mostEntries card room) sound ≡ given sound)
 cards-of ts hold stored t h =
     card-with t (map-agree tested (λ u. given sound) h hold) (map-agree (λ u. entriesIn (wordsOf u) (onesOf u) (twosOf u)) storedIn h stored)
-
-all-hold : map tested tables ≡ map (λ t. given sound) tables
-unfolding listsTests entryTests placesHold pairHolds spanHolds slotFrom inTurn first
-all-hold = refl
-
--- they have the table's entries
-all-stored : map (λ t. entriesIn (wordsOf t) (onesOf t) (twosOf t)) tables ≡ map storedIn tables
-unfolding slotFrom row
-all-stored = refl
 
 pub table-card : (t : Table) → In t tables
     → (card : List ℕ) × OnCard t card

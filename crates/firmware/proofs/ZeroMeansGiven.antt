@@ -2,12 +2,10 @@
 use mathlib.Core.Path.{_≡_, refl, sym, _∙_}
 use mathlib.Core.List.{List}
 use Prim.Native.Nat.{ℕ, _<_}
-use native.Mathlib.Omega.{arith}
 use lib.ListN.{length}
-use Rattle.answers.specs.Numbers.{Room}
 use Rattle.answers.specs.Answer.{Answer, given, refused, sound, Test, first}
 use Rattle.answers.proofs.Laws.{given-not-refused}
-use Rattle.answers.proofs.Only.{Numbered, none, also, only-append, only-refused}
+use Rattle.answers.proofs.Only.{Numbered, only-refused}
 use Rattle.block.specs.Block.{fetchTests}
 use Rattle.block.proofs.Laws.{fetch-numbered}
 use Rattle.fasta.specs.Writing as fasta
@@ -30,6 +28,7 @@ use Rattle.exporting.proofs.RefusalNumbers.{exporting-number}
 use Rattle.sequence.specs.Many.{Power, two-to, no-build}
 use Rattle.sequence.specs.Verdict.{sole, several, noBuild, Outcome, settled, unsettled}
 use Rattle.builds.specs.Building.{buildTests, slotsOn, Says, tells, refuses}
+use Rattle.builds.proofs.CardLaws.{build-only}
 use Rattle.narrow.specs.Settling.{listsBuildTests, settleTests, Settled, Settles}
 use Rattle.narrow.specs.Settling as settling
 use Rattle.narrow.proofs.TestLaws as narrow
@@ -88,8 +87,7 @@ module _ (r : List ℕ) (names letters : ℕ) where
 -- ---- build, whose contract is a relation: both ways
 
 build-numbered : (limit : ℕ) (card : List ℕ) (room : ℕ) → Numbered (buildTests limit card room)
-unfolding buildTests
-build-numbered limit card room = only-append (order-numbered limit card) (also {n = Room} (omega arith) none)
+build-numbered limit card room = build-only limit card room (λ n above most. above)
 
 zero-given : (o : Outcome) → buildAnswer (given o) .number ≡ 0
 zero-given (settled (sole s) n) = refl

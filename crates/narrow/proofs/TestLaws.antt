@@ -124,11 +124,7 @@ module _ (kind : ℕ) (es : List Slot) where
 
   -- they refuse by 5 or by 30
   span-refusals : {n p : ℕ} → first (spanTests kind es) sound ≡ refused n p → (n ≡ Kind) ⊎ (n ≡ Wider)
-  span-refusals {n} {p} = go (eqb kind span)
-    where
-      go : (b : Bool) → first (test b Kind 0 ∷ widthTests 0 es) sound ≡ refused n p → (n ≡ Kind) ⊎ (n ≡ Wider)
-      go true e = inr (only-refused (widths-only {P = λ k. k ≡ Wider} refl 0 es) sound (sym (first-pass true Kind 0 (widthTests 0 es) sound refl) ∙ e))
-      go false e = let same = sym (first-fail false Kind 0 (widthTests 0 es) sound refl) ∙ e in inl (cc)
+  span-refusals e = only-refused {P = λ n. (n ≡ Kind) ⊎ (n ≡ Wider)} (also (inl refl) (widths-only (inr refl) 0 es)) sound e
 
 -- ---- tests of building, and then these
 

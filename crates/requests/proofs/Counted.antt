@@ -11,7 +11,7 @@ use Rattle.answers.specs.Answer.{Answer, given, refused, first, sound}
 use Rattle.answers.proofs.Laws.{given-not-refused}
 use Rattle.entries.specs.Slot.{slotFrom}
 use Rattle.entries.specs.Fault.{pair, span}
-use Rattle.entries.specs.Entry.{entryOf, placesOf}
+use Rattle.entries.specs.Entry.{entryOf}
 use Rattle.layout.specs.Bounds.{mostEntries}
 use Rattle.layout.specs.Layout.{toldBy}
 use Rattle.layout.specs.Card.{cardOf}
@@ -21,7 +21,6 @@ use Rattle.lists.specs.Lists.{formatFor, listsTests}
 use Rattle.lists.proofs.Laws.{lists-accepted}
 use Rattle.writer.proofs.ReadBackLaws.{accepted-order}
 use Rattle.sequence.specs.Lists.{In}
-use Rattle.sequence.specs.Arrangement.{overlaps}
 use Rattle.sequence.specs.Build.{Build}
 use Rattle.sequence.specs.Verdict.{Verdict, sole, several, noBuild, Tells, settled}
 use Rattle.sequence.specs.Many.{Many, Power, two-to, no-build, howMany}
@@ -46,6 +45,7 @@ use Rattle.counting.proofs.count_lists.Met as count-lists-met
 use Rattle.demands.specs.Demanded.{Fits, Settles, kindOf, OnCard}
 use Rattle.demands.proofs.MeaningLaws.{settles-given, means-tells, says-holds, says-means, made-slots}
 use Rattle.requests.specs.Counted.{NumberMeans, GoesWith, CountedTable, countedTables}
+use Rattle.requests.proofs.Examples.{all-counted, all-stored, all-pairs}
 
 -- ---- each call ends, with an answer that meets its contract
 
@@ -144,22 +144,11 @@ number-agrees {card} {before} kind c b settles =
 
 -- ---- the pair tables
 
-all-counted : map (λ t. length (distinct (sequences 2 (t .table .entries)))) countedTables ≡ map (λ t. howMany (t .builds)) countedTables
-unfolding distinct sequences overlaps
-all-counted = refl
-
 -- P1 has two builds, P4 and P7 none, P5 one, two copies of P1 four
 pub tables-counted : (t : CountedTable) → In t countedTables → Many (Build 2 (t .table .entries)) (howMany (t .builds))
 tables-counted t h =
     rw (map-agree (λ u. length (distinct (sequences 2 (u .table .entries)))) (λ u. howMany (u .builds)) h all-counted) at
     (many-enumerated 2 (t .table .entries))
-
-all-stored : map (λ t. pairEntries (storedIn (t .table))) countedTables ≡ map (λ t. t .table .entries) countedTables
-unfolding entryOf placesOf
-all-stored = refl
-
-all-pairs : map (λ t. kindOf (t .table)) countedTables ≡ map (λ t. pair) countedTables
-all-pairs = refl
 
 -- what is answered for a card of a table
 pub table-number : {card : List ℕ} {q : Number} → Counts numberOf (OfCard mostEntries card) q

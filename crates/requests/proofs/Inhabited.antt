@@ -4,31 +4,23 @@
 -- of two copies of P1. Assumes nothing.
 use mathlib.Core.Path.{_≡_, refl, sym, ap, _∙_}
 use mathlib.Core.Logic.{inl, inr, ⊎-elim}
-use mathlib.Core.List.{List, [], _∷_, map, flatMap}
+use mathlib.Core.List.{List, [], _∷_}
 use Prim.Native.Nat.{ℕ, _+_, _≤_, _<_}
 use native.Mathlib.Omega.{arith}
 use lib.ListN.{length, getD}
 use Rattle.answers.specs.Answer.{given, first, sound}
-use Rattle.answers.specs.Row.{row, inTurn}
 use Rattle.answers.proofs.RowLaws.{length-row, row-at}
 use Rattle.entries.specs.declared.Slot.{Slot}
-use Rattle.entries.specs.Slot.{slotFrom, entriesIn}
-use Rattle.entries.specs.Fault.{span, pairHolds, spanHolds, placesHold, entryTests}
-use Rattle.entries.specs.Entry.{placesOf, entryOf}
+use Rattle.entries.specs.Fault.{span}
 use Rattle.layout.specs.Bounds.{mostEntries}
 use Rattle.layout.specs.Layout.{toldBy, slotOf}
 use Rattle.card.specs.Fetching.{admission}
 use Rattle.card.proofs.FetchingLaws.{admission-given}
-use Rattle.lists.specs.Lists.{listsTests}
 use Rattle.sequence.specs.Lists.{In, later}
 use Rattle.sequence.specs.Lists as lists
-use Rattle.sequence.specs.Arrangement.{overlaps}
 use Rattle.sequence.specs.Tables.{Table, storedIn, pairTables, spanTables, Told}
 use Rattle.sequence.proofs.ListLaws.{not-in-nil, in-cons, in-append-right}
-use Rattle.sequence.proofs.Enumerator.{sequences}
-use Rattle.sequence.proofs.VerdictOf.{verdictOf}
 use Rattle.sequence.proofs.Tables.{map-agree, tables-told}
-use Rattle.spans.specs.Walk.{placements}
 use Rattle.spans.specs.Settling.{spanEntries}
 use Rattle.spans.specs.Tables.{Settles}
 use Rattle.spans.proofs.Tables.{tables-settle}
@@ -36,32 +28,22 @@ use Rattle.layers.specs.Narrow.{Narrow, crowd, mostOver}
 use Rattle.layers.proofs.Crowded.{crowded-none}
 use Rattle.builds.specs.Building.{lettersIn, buildTests, slotsOn}
 use Rattle.builds.proofs.CardLaws.{order-held}
-use Rattle.narrow.specs.Settling.{widthTests}
 use Rattle.narrow.proofs.TestLaws.{widths-narrow}
 use Rattle.sequence.specs.Verdict.{Tells}
 use Rattle.demands.specs.Demanded.{Fits, kindOf, OnCard}
 use Rattle.requests.specs.Neighbours.{Near, AllNear, nearTable}
 use Rattle.requests.specs.Counted.{p1Twice}
 use Rattle.requests.specs.Settled.{OnNarrowCard, FirstWide, crowdedTable, wideTable, sevenTable}
-use Rattle.demands.proofs.Inhabited.{wordsOf, onesOf, twosOf, tested, cards-of, table-card}
+use Rattle.demands.proofs.Inhabited.{cards-of, table-card}
+use Rattle.requests.proofs.Examples.{all-spans, further, further-decided, further-hold, further-stored}
+use Rattle.requests.proofs.Examples.{spanned, spanned-hold, spanned-stored, spanned-as-spans, spanned-walks, rest-decided}
+use Rattle.requests.proofs.Examples.{crowded-widths, crowded-over, seven-widths, seven-over}
 use Rattle.requests.proofs.SettledLaws.{as-spans, on-table}
-use Rattle.requests.proofs.Settled.{all-spans, span-tables-settled}
-
-abbrev further : List Table
-further = nearTable ∷ p1Twice ∷ []
+use Rattle.requests.proofs.Settled.{span-tables-settled}
 
 -- the verdicts that they state are true
 pub further-told : Told (nearTable ∷ p1Twice ∷ [])
-unfolding verdictOf sequences overlaps
-further-told = tables-told further refl
-
-further-hold : map tested further ≡ map (λ t. given sound) further
-unfolding listsTests entryTests placesHold pairHolds slotFrom inTurn first
-further-hold = refl
-
-further-stored : map (λ t. entriesIn (wordsOf t) (onesOf t) (twosOf t)) further ≡ map storedIn further
-unfolding slotFrom row
-further-stored = refl
+further-told = tables-told further further-decided
 
 -- ---- two copies of P1
 
@@ -97,29 +79,10 @@ narrow-table-card t h =
           on-table (made .0) room (made .2 room g) t (map-agree kindOf (λ u. span) h all-spans) (span-tables-settled t h .0) (made .1),
     )
 
-abbrev spanned : List Table
-spanned = crowdedTable ∷ wideTable ∷ sevenTable ∷ []
-
-spanned-hold : map tested spanned ≡ map (λ t. given sound) spanned
-unfolding listsTests entryTests placesHold spanHolds slotFrom inTurn first
-spanned-hold = refl
-
-spanned-stored : map (λ t. entriesIn (wordsOf t) (onesOf t) (twosOf t)) spanned ≡ map storedIn spanned
-unfolding slotFrom row
-spanned-stored = refl
-
 -- ---- with 8 spans over a place
-
-crowded-widths : first (widthTests 0 (storedIn crowdedTable)) sound ≡ given sound
-unfolding widthTests first
-crowded-widths = refl
 
 crowded-narrow : Narrow (storedIn crowdedTable)
 crowded-narrow = widths-narrow 0 (storedIn crowdedTable) crowded-widths
-
-crowded-over : crowd 0 (storedIn crowdedTable) ≡ 8
-unfolding crowd
-crowded-over = refl
 
 pub crowded-card : (card : List ℕ) × ((room : ℕ) → lettersIn (toldBy card) ≤ room → OnNarrowCard card room) × (mostOver < crowd 0 (slotsOn card))
 crowded-card =
@@ -161,35 +124,17 @@ wide-card =
 
 -- ---- what the three tables state is true
 
-spanned-as-spans : map (λ t. spanEntries (storedIn t)) spanned ≡ map (λ t. t .entries) spanned
-unfolding entryOf placesOf
-spanned-as-spans = refl
-
-spanned-walks : map (λ t. placements 2 (storedIn t)) spanned ≡ map (λ t. t .placements) spanned
-unfolding placements flatMap overlaps
-spanned-walks = refl
-
-rest-told : Told (wideTable ∷ sevenTable ∷ [])
-unfolding verdictOf sequences overlaps
-rest-told = tables-told (wideTable ∷ sevenTable ∷ []) refl
-
 spanned-told : Told spanned
-unfolding entryOf placesOf
-spanned-told t lists.first = crowded-none 2 0 (storedIn crowdedTable) crowded-narrow (omega (arith, crowded-over))
-spanned-told t (later h) = rest-told t h
+spanned-told t lists.first =
+    let here : In crowdedTable spanned = lists.first in
+    let same = map-agree (λ u. spanEntries (storedIn u)) (λ u. u .entries) here spanned-as-spans in
+    rw same at (crowded-none 2 0 (storedIn crowdedTable) crowded-narrow (omega (arith, crowded-over)))
+spanned-told t (later h) = tables-told (wideTable ∷ sevenTable ∷ []) rest-decided t h
 
 pub spanned-settle : Settles (crowdedTable ∷ wideTable ∷ sevenTable ∷ [])
 spanned-settle = tables-settle spanned spanned-as-spans spanned-walks spanned-told
 
 -- ---- with 7 spans over a place, and a build: 8 is the least number that leaves none
-
-seven-widths : first (widthTests 0 (storedIn sevenTable)) sound ≡ given sound
-unfolding widthTests first
-seven-widths = refl
-
-seven-over : crowd 3 (storedIn sevenTable) ≡ mostOver
-unfolding crowd
-seven-over = refl
 
 pub seven-card : (card : List ℕ) × ((room : ℕ) → lettersIn (toldBy card) ≤ room → OnNarrowCard card room)
     × ((crowd 3 (slotsOn card) ≡ mostOver) × Tells (Fits card) (sevenTable .verdict))

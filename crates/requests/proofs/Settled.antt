@@ -1,8 +1,8 @@
 -- "Narrow spans always settled" (request 11), of `narrow::settle_card`, whose contract is `SettlesCard card before r after`. That the outcome
 -- is unique, and the same from the lists that a card is admitted into, stands in crates/narrow/proofs/Determined.antt. Assumes nothing.
-use mathlib.Core.Path.{_≡_, refl, sym, ap, _∙_}
+use mathlib.Core.Path.{_≡_, sym, ap, _∙_}
 use mathlib.Core.Logic.{_⊎_}
-use mathlib.Core.List.{List, map}
+use mathlib.Core.List.{List}
 use Prim.Native.Nat.{ℕ, _≤_, _<_}
 use lib.ListN.{length}
 use Rattle.answers.specs.declared.Refusal.{Refusal}
@@ -41,6 +41,7 @@ use Rattle.demands.specs.Demanded as demands
 use Rattle.demands.proofs.MeaningLaws.{said-sole, said-several, said-none, said-refused, settles-given, means-tells, says-means}
 use Rattle.requests.specs.Neighbours.{SameSaid}
 use Rattle.requests.specs.Settled.{SettlesCard, OnNarrowCard, FirstWide}
+use Rattle.requests.proofs.Examples.{all-narrow, all-spans}
 use Rattle.requests.proofs.SettledLaws.{as-spans, verdict-settles, narrow-hold, said-narrow, said-tells, tells-said, said-refusal, narrow-given, settled-by, refused-by, reader-refused, no-room-refused, pair-refused, first-wide-refused, refused-first-wide, made-settles, on-table}
 
 -- ---- each call ends, with an answer that meets its contract
@@ -187,13 +188,6 @@ pub settle-lists-as-card : (kind l : ℕ) (words ones twos : List ℕ) {before a
 settle-lists-as-card kind l words ones twos {before} hold p q = settles-one (made-settles kind l words ones twos before hold p) q
 
 -- ---- S1 to S5
-
-all-narrow : map (λ t. first (widthTests 0 (storedIn t)) sound) spanTables ≡ map (λ t. given sound) spanTables
-unfolding widthTests first
-all-narrow = refl
-
-pub all-spans : map kindOf spanTables ≡ map (λ t. span) spanTables
-all-spans = refl
 
 -- each is narrow, and its verdict is what settling means
 pub span-tables-settled : (t : Table) → In t spanTables → Narrow (storedIn t) × Means 2 (storedIn t) (settled (t .verdict) 0)

@@ -1,18 +1,13 @@
 -- Laws of settling narrow span cards: the tests of a card, one by one and together, and what is said of one. Assumes nothing.
 use mathlib.Core.Path.{_≡_, refl, sym, ap, _∙_, subst}
 use mathlib.Core.Logic.{_⊎_, inl, inr}
-use mathlib.Core.Bool.{Bool, true, false}
-use mathlib.Core.List.{List, [], _∷_, map}
-use Prim.Native.Nat.{ℕ, zero, suc, _+_, _≤_, _<_}
+use mathlib.Core.List.{List, map}
+use Prim.Native.Nat.{ℕ, _≤_, _<_}
 use native.Mathlib.Omega.{arith}
 use lib.ListN.{length}
-use lib.Dec.{eqb, leb}
-use borrow.Author.Tests.{eqb-true, leb-true}
 use Rattle.answers.specs.Numbers.{Kind, Room, Wider}
-use Rattle.answers.specs.Answer.{Answer, given, refused, Test, test, first, sound}
-use Rattle.answers.specs.Row.{row}
-use Rattle.answers.proofs.Laws.{first-pass, first-passed, first-fail, first-holds, first-both, given-not-refused}
-use Rattle.entries.specs.declared.Format.{Format}
+use Rattle.answers.specs.Answer.{Answer, given, refused, Test, first, sound}
+use Rattle.answers.proofs.Laws.{given-not-refused}
 use Rattle.entries.specs.declared.Slot.{Slot}
 use Rattle.entries.specs.Slot.{slotFrom}
 use Rattle.entries.specs.Fault.{pair, span}
@@ -25,120 +20,26 @@ use Rattle.card.specs.Reading.{readingOrder}
 use Rattle.lists.specs.Lists.{formatFor, listsTests}
 use Rattle.lists.proofs.Laws.{lists-accepted}
 use Rattle.writer.proofs.ReadBackLaws.{accepted-order}
-use Rattle.sequence.specs.Lists as members
 use Rattle.sequence.specs.Build.{Build}
 use Rattle.sequence.specs.Tables.{Table, storedIn}
 use Rattle.sequence.specs.Verdict.{Verdict, sole, several, noBuild, Tells, Outcome, settled}
 use Rattle.spans.specs.Settling.{spanEntries}
-use Rattle.layers.specs.Narrow.{isNarrow, Narrow}
+use Rattle.layers.specs.Narrow.{Narrow}
 use Rattle.layers.specs.Settling.{settles}
 use Rattle.builds.specs.declared.BuildAnswer.{BuildAnswer}
 use Rattle.builds.specs.declared.BuildAnswer.the-variants.{Refused}
 use Rattle.builds.specs.Building.{lettersIn, buildTests, slotsOn, answerOf, lettersAfter}
-use Rattle.builds.proofs.CardLaws.{reader-refuses, order-held, no-room, has-room}
-use Rattle.narrow.specs.Settling.{widthTests, listsBuildTests, settleTests, tells, refuses, OfCard, OfLists}
+use Rattle.builds.proofs.CardLaws.{reader-refuses, order-held, room-held, no-room, has-room}
+use Rattle.narrow.specs.Settling.{listsBuildTests, settleTests, tells, refuses, OfCard, OfLists}
 use Rattle.narrow.specs.Settling as narrow
-use Rattle.narrow.proofs.TestLaws.{spanTests, span-go-on, span-wrong, span-hold, tests-refuse, tests-go-on, tests-hold, refusals}
+use Rattle.narrow.proofs.TestLaws.{narrow-widths, wide-refused, refused-wide}
+use Rattle.narrow.proofs.TestLaws.{spanTests, span-go-on, span-wrong, span-hold, span-refused-wide}
+use Rattle.narrow.proofs.TestLaws.{tests-refuse, tests-go-on, tests-hold, refusals, build-as-card}
 use Rattle.narrow.proofs.SettlingLaws.{other-tests, settled-one}
 use Rattle.demands.specs.Demanded.{Fits, Settles, kindOf, OnCard}
 use Rattle.demands.proofs.MeaningLaws.{made-slots}
 use Rattle.requests.specs.Settled.{SettlesCard, OnNarrowCard, FirstWide}
 use Rattle.requests.proofs.NumberLaws.{building-below}
-
--- ---- the widths
-
-narrow-widths : (k : ℕ) (es : List Slot) → Narrow es → first (widthTests k es) sound ≡ given sound
-unfolding widthTests first
-narrow-widths k [] n = refl
-narrow-widths k (s ∷ es) n =
-    first-pass (isNarrow s) Wider k (widthTests (suc k) es) sound (n .each s members.first)
-    ∙ narrow-widths (suc k) es (record { each = λ d i. n .each d (members.later i) })
-
--- of the n entries f k, f (k + 1), … the entry f (k + e) is the first that is not narrow
-record Wide (f : ℕ → Slot) (k n e : ℕ) : Type 0 where
-  there : e < n
-  wide : isNarrow (f (k + e)) ≡ false
-  earlier : (i : ℕ) → i < e → isNarrow (f (k + i)) ≡ true
-
-module _ (f : ℕ → Slot) where
-  wide-refused : (k n e : ℕ) → Wide f k n e → first (widthTests k (row f k n)) sound ≡ refused Wider (k + e)
-  unfolding widthTests row
-  wide-refused k zero e w = absurd (omega (arith, w .there))
-  wide-refused k (suc n) zero w =
-      let here : k + 0 ≡ k = omega arith in
-      rw here (first-fail (isNarrow (f k)) Wider k (widthTests (suc k) (row f (suc k) n)) sound (rw here at (w .wide)))
-  wide-refused k (suc n) (suc e) w =
-      let here : k + 0 ≡ k = omega arith in
-      let next : (i : ℕ) → k + suc i ≡ suc k + i = λ i. omega arith in
-      let more : Wide f (suc k) n e = record {
-        there = omega (arith, w .there);
-        wide = rw (next e) at (w .wide);
-        earlier = λ i h. rw (next i) at (w .earlier (suc i) (omega arith));
-      } in
-      rw (next e)
-      (first-pass (isNarrow (f k)) Wider k (widthTests (suc k) (row f (suc k) n)) sound (rw here at (w .earlier 0 (omega arith)))
-      ∙ wide-refused (suc k) n e more)
-
-  -- one narrow entry more before them
-  wide-later : (k n e : ℕ) → isNarrow (f k) ≡ true → Wide f (suc k) n e → Wide f k (suc n) (suc e)
-  wide-later k n e narrow w = record {
-    there = omega (arith, w .there);
-    wide = let next : k + suc e ≡ suc k + e = omega arith in rw next (w .wide);
-    earlier = earlier;
-  }
-    where
-      earlier : (i : ℕ) → i < suc e → isNarrow (f (k + i)) ≡ true
-      earlier zero h = let here : k + 0 ≡ k = omega arith in rw here narrow
-      earlier (suc i) h = let next : k + suc i ≡ suc k + i = omega arith in rw next (w .earlier i (omega arith))
-
-  refused-wide : (k n : ℕ) {q p : ℕ} → first (widthTests k (row f k n)) sound ≡ refused q p → (e : ℕ) × (p ≡ k + e) × Wide f k n e
-  unfolding widthTests row first
-  refused-wide k zero h = absurd (given-not-refused h)
-  refused-wide k (suc n) {q} {p} h = go (isNarrow (f k)) refl (λ g. refused-wide (suc k) n g) h
-    where
-      rest : List Test
-      rest = widthTests (suc k) (row f (suc k) n)
-
-      go : (b : Bool) → isNarrow (f k) ≡ b → (first rest sound ≡ refused q p → (e : ℕ) × (p ≡ suc k + e) × Wide f (suc k) n e)
-          → first (test b Wider k ∷ rest) sound ≡ refused q p
-          → (e : ℕ) × (p ≡ k + e) × Wide f k (suc n) e
-      go true narrow more h =
-          let w = more (sym (first-pass true Wider k rest sound refl) ∙ h) in
-          (suc (w .0), omega (arith, w .1), wide-later k n (w .0) narrow (w .2))
-      go false wide more h =
-          let same = sym (first-fail false Wider k rest sound refl) ∙ h in
-          let here : k + 0 ≡ k = omega arith in
-          let own : k ≡ p = cc in
-          (0, omega arith, record { there = omega arith; wide = rw here wide; earlier = λ i g. absurd (omega arith) })
-
--- of a card's entries
-module _ (card : List ℕ) (e : ℕ) where
-  card-wide : FirstWide card e → Wide (slotOf card) 0 (toldBy card .m) e
-  card-wide w = record {
-    there = w .there;
-    wide = let here : 0 + e ≡ e = omega arith in rw here (w .wide);
-    earlier = λ i h. let here : 0 + i ≡ i = omega arith in rw here (w .earlier i h);
-  }
-
-  wide-on-card : Wide (slotOf card) 0 (toldBy card .m) e → FirstWide card e
-  wide-on-card w = record {
-    there = w .there;
-    wide = let here : 0 + e ≡ e = omega arith in rw here at (w .wide);
-    earlier = λ i h. let here : 0 + i ≡ i = omega arith in rw here at (w .earlier i h);
-  }
-
--- 30 after the kind is a width's
-span-refused-wide : (kind : ℕ) (es : List Slot) {e : ℕ} → first (spanTests kind es) sound ≡ refused Wider e
-    → (kind ≡ span) × (first (widthTests 0 es) sound ≡ refused Wider e)
-span-refused-wide kind es {e} = go (eqb kind span) refl
-  where
-    go : (b : Bool) → eqb kind span ≡ b → first (test b Kind 0 ∷ widthTests 0 es) sound ≡ refused Wider e
-        → (kind ≡ span) × (first (widthTests 0 es) sound ≡ refused Wider e)
-    go true k h = (eqb-true kind span k, sym (first-pass true Kind 0 (widthTests 0 es) sound refl) ∙ h)
-    go false k h =
-        let same = sym (first-fail false Kind 0 (widthTests 0 es) sound refl) ∙ h in
-        let z : Kind ≡ Wider = cc in
-        absurd (omega arith)
 
 -- ---- the entries of a span card
 
@@ -155,25 +56,19 @@ module _ (card : List ℕ) (room : ℕ) where
   abbrev cardTests : List Test
   cardTests = settleTests (toldBy card .kind) (slotsOn card) (buildTests mostEntries card room)
 
-  room-held : first (buildTests mostEntries card room) sound ≡ given sound → lettersIn (toldBy card) ≤ room
-  unfolding buildTests
-  room-held e =
-      let b = first-both _ sound (readingOrder mostEntries card) sound e in
-      leb-true _ room (first-passed (leb _ room) Room 0 [] sound sound (b .1) .0)
-
   -- they hold exactly for narrow span cards with room
   pub narrow-hold : OnNarrowCard card room → first cardTests sound ≡ given sound
   narrow-hold on =
       tests-go-on (toldBy card .kind) (slotsOn card) (buildTests mostEntries card room)
       (has-room mostEntries card room (on .admitted) (on .room-for))
       ∙ sym (span-go-on (toldBy card .kind) (slotsOn card) (on .kind))
-      ∙ narrow-widths 0 (slotsOn card) (on .narrow)
+      ∙ narrow-widths (slotOf card) (toldBy card .m) (on .narrow)
 
   hold-narrow : first cardTests sound ≡ given sound → OnNarrowCard card room
   hold-narrow e =
       let b = tests-hold (toldBy card .kind) (slotsOn card) (buildTests mostEntries card room) e in
       let s = span-hold (toldBy card .kind) (slotsOn card) (b .1) in
-      record { admitted = order-held mostEntries card room (b .0); room-for = room-held (b .0); kind = s .0; narrow = s .1 }
+      record { admitted = order-held mostEntries card room (b .0); room-for = room-held mostEntries card room (b .0); kind = s .0; narrow = s .1 }
 
   -- ---- the refusals
 
@@ -197,10 +92,9 @@ module _ (card : List ℕ) (room : ℕ) where
 
       pub first-wide-refused : (e : ℕ) → toldBy card .kind ≡ span → FirstWide card e → first cardTests sound ≡ refused Wider e
       first-wide-refused e kind w =
-          let here : 0 + e ≡ e = omega arith in
           kind-next
           ∙ sym (span-go-on (toldBy card .kind) (slotsOn card) kind)
-          ∙ rw here at (wide-refused (slotOf card) 0 (toldBy card .m) e (card-wide card e w))
+          ∙ wide-refused (slotOf card) (toldBy card .m) (w .there) (w .wide) (w .earlier)
 
   -- 30 is the refusal of a width
   pub refused-first-wide : (e : ℕ) → first cardTests sound ≡ refused Wider e
@@ -216,10 +110,10 @@ module _ (card : List ℕ) (room : ℕ) where
       by-cases (inr (hold, by)) =
           let s = span-refused-wide (toldBy card .kind) (slotsOn card)
           (sym (tests-go-on (toldBy card .kind) (slotsOn card) (buildTests mostEntries card room) hold) ∙ h) in
-          let w = refused-wide (slotOf card) 0 (toldBy card .m) (s .1) in
-          let there : w .0 ≡ e = omega (arith, w .1) in
-          let own : FirstWide card (w .0) = wide-on-card card (w .0) (w .2) in
-          ((order-held mostEntries card room hold, room-held hold), (s .0, rw there at own))
+          let w = refused-wide (slotOf card) (toldBy card .m) (s .1) in (
+            (order-held mostEntries card room hold, room-held mostEntries card room hold),
+            (s .0, record { there = w .0; wide = w .1; earlier = w .2 }),
+          )
 
   -- ---- what is said
 
@@ -266,13 +160,10 @@ module _ (kind l : ℕ) (words ones twos : List ℕ) (before : List ℕ)
 
   same-tests : first (listsBuildTests mostEntries kind l words ones twos (length before)) sound
       ≡ first (buildTests mostEntries made (length before)) sound
-  unfolding listsBuildTests buildTests
   same-tests =
-      let f = formatFor kind l words in
-      let order = accepted-order kind l words ones twos (lists-accepted hold) in
-      first-holds _ sound (listsTests mostEntries kind l words ones twos) hold
-      ∙ ap (λ (g : Format). first (test (leb (lettersIn g) (length before)) Room 0 ∷ []) sound) (sym (card-told f (slotFrom words ones twos)))
-      ∙ sym (first-holds _ sound (readingOrder mostEntries made) order)
+      build-as-card mostEntries kind l words ones twos (length before) made hold
+      (accepted-order kind l words ones twos (lists-accepted hold))
+      (card-told (formatFor kind l words) (slotFrom words ones twos))
 
   made-says : {a : Answer Outcome} → OfLists mostEntries kind l words ones twos (length before) a → OfCard mostEntries made (length before) a
   made-says s =
@@ -291,7 +182,7 @@ pub on-table : (card : List ℕ) (room : ℕ) → first (buildTests mostEntries 
     → OnNarrowCard card room
 on-table card room hold t kind narrow on = record {
   admitted = order-held mostEntries card room hold;
-  room-for = room-held card room hold;
+  room-for = room-held mostEntries card room hold;
   kind = on .kind ∙ kind;
   narrow = rw (on .entries) narrow;
 }
