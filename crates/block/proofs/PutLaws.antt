@@ -6,7 +6,8 @@ use native.Mathlib.Numerals.{add-one}
 use native.Mathlib.Omega.{arith}
 use lib.ListN.{length, getD, take, drop, set, replicate, length-append, length-drop, length-replicate, replicate-append-replicate, take-append-drop}
 use lib.Seq.{set-split, drop-cons, drop-length, drop-drop, take-at, drop-at, getD-at, getD-append-add, length-take-le, append-snoc}
-use Rattle.block.specs.Bytes.{twoAt, fourAt, twoBytes, fourBytes, putAt, AreBytes}
+use Rattle.block.specs.Bytes.{twoAt, fourAt, twoBytes, fourBytes, AreBytes}
+use Rattle.block.specs.Putting.{putAt}
 
 -- ---- bytes put into a buffer
 

@@ -13,7 +13,8 @@ use Rattle.answers.specs.Answer.{given, sound, first}
 use Rattle.answers.proofs.Laws.{first-passed}
 use Rattle.answers.proofs.Tests.{both}
 use Rattle.block.specs.declared.check.CheckBytes.{CheckBytes}
-use Rattle.block.specs.Bytes.{twoAt, twoBytes, putAt, AreBytes}
+use Rattle.block.specs.Bytes.{twoAt, twoBytes, AreBytes}
+use Rattle.block.specs.Putting.{putAt}
 use Rattle.block.specs.Check.{checkBytes, checks, checkAt}
 use Rattle.block.specs.Block.{blockBytes, indexAt, indexOf, blockTests}
 use Rattle.block.specs.Sealing.{checked, sealed}

@@ -1,8 +1,8 @@
 -- Laws of what is said of two cards, or of one under two budgets. Assumes nothing.
 use mathlib.Core.Path.{_≡_, refl, sym, ap, _∙_}
-use mathlib.Core.Logic.{_⊎_, inl, ⊎-map}
+use mathlib.Core.Logic.{_⊎_, inl, inr, ⊎-map, ⊎-elim}
 use mathlib.Core.List.{List, _++_, map}
-use Prim.Native.Nat.{ℕ, _≤_, _<_}
+use Prim.Native.Nat.{ℕ, _≤_}
 use native.Mathlib.Omega.{arith}
 use lib.ListN.{length, take, drop}
 use Rattle.answers.specs.Answer.{Answer, given, refused, first, sound}
@@ -15,36 +15,35 @@ use Rattle.layout.specs.Bounds.{mostEntries}
 use Rattle.layout.specs.Layout.{toldBy}
 use Rattle.sequence.specs.Lists.{Paired}
 use Rattle.sequence.specs.Verdict.{Before, Verdict, sole, several, noBuild, Outcome, settled, unsettled, Widens}
-use Rattle.spans.specs.Walk.{placements}
 use Rattle.spans.specs.Settling as spans
+use Rattle.spans.specs.Compared.{NoLaterIf, Narrowed}
 use Rattle.spans.proofs.Compare as spans-compare
 use Rattle.pairs.specs.Settling as pairs
 use Rattle.pairs.proofs.Meant as pairs-meant
 use Rattle.builds.specs.declared.BuildAnswer.{BuildAnswer}
-use Rattle.builds.specs.declared.BuildAnswer.the-variants.{Sole, None, Unsettled}
-use Rattle.builds.specs.Building.{buildTests, slotsOn, Means, on-pairs, on-spans, Says, tells, refuses, answerOf, lettersAfter, Builds}
+use Rattle.builds.specs.declared.BuildAnswer.the-variants.{Sole, None}
+use Rattle.builds.specs.Building.{buildTests, slotsOn, Means, on-pairs, on-spans, Says, tells, refuses, answerOf, lettersAfter}
 use Rattle.builds.proofs.FromLaws.{letters-start}
-use Rattle.builds.proofs.Determined.{says-one}
-use Rattle.demands.specs.Demanded.{Fits, Settles, HasBuild, IsSeveral, Letters, Widened}
-use Rattle.demands.proofs.MeaningLaws.{means-tells, says-means, card-entered}
+use Rattle.demands.specs.Demanded.{Fits, Passes, HasBuild, IsSeveral, Letters, sequenceIn, Widened}
+use Rattle.demands.proofs.MeaningLaws.{means-tells, said-sole, said-several, says-means, card-entered}
 
 -- ---- two cards
 
 -- what demand 3 says of what is said of them
 abbrev NoLaterSaid : Answer Outcome → Answer Outcome → Type 0
-NoLaterSaid (given o) (given o′) = spans.NoLaterIf o o′
+NoLaterSaid (given o) (given o′) = NoLaterIf o o′
 NoLaterSaid (given o) (refused n p) = Unit {0}
 NoLaterSaid (refused n p) a = Unit {0}
 
 abbrev NarrowedSaid : Answer Outcome → Answer Outcome → Type 0
-NarrowedSaid (given o) (given o′) = spans.Narrowed o o′
+NarrowedSaid (given o) (given o′) = Narrowed o o′
 NarrowedSaid (given o) (refused n p) = Unit {0}
 NarrowedSaid (refused n p) a = Unit {0}
 
 -- over the entries of one kind
 module _ {kind l b c : ℕ} {es es′ : List Slot} (wider : Paired Widens (map (entryOf kind) es) (map (entryOf kind) es′))
     (enters : kind ≡ span → spans.Entered l es) (enters′ : kind ≡ span → spans.Entered l es′) where
-  pub means-later : {o o′ : Outcome} → Means kind l es b o → Means kind l es′ c o′ → spans.NoLaterIf o o′
+  pub means-later : {o o′ : Outcome} → Means kind l es b o → Means kind l es′ c o′ → NoLaterIf o o′
   means-later (on-pairs e (pairs.settles {v} t)) (on-pairs f (pairs.settles {v = v′} u)) =
       pairs-meant.means-later {es = es} {es′ = es′} {v = v} {v′ = v′} {n = 0} {n′ = 0} (rw e at wider) (pairs.settles t) (pairs.settles u)
   means-later (on-spans e p) (on-spans f q) = spans-compare.means-later (enters e) (enters′ f) (rw e at wider) p q
@@ -53,7 +52,7 @@ module _ {kind l b c : ℕ} {es es′ : List Slot} (wider : Paired Widens (map (
 
 module _ {kind l b : ℕ} {es es′ : List Slot} (wider : Paired Widens (map (entryOf kind) es) (map (entryOf kind) es′))
     (enters : kind ≡ span → spans.Entered l es) (enters′ : kind ≡ span → spans.Entered l es′) where
-  pub means-narrowed : {o o′ : Outcome} → Means kind l es b o → Means kind l es′ b o′ → spans.Narrowed o o′
+  pub means-narrowed : {o o′ : Outcome} → Means kind l es b o → Means kind l es′ b o′ → Narrowed o o′
   means-narrowed (on-pairs e (pairs.settles {v} t)) (on-pairs f (pairs.settles {v = v′} u)) =
       spans-compare.no-later-narrowed v v′
       (pairs-meant.means-later {es = es} {es′ = es′} {v = v} {v′ = v′} {n = 0} {n′ = 0} (rw e at wider) (pairs.settles t) (pairs.settles u))
@@ -71,7 +70,7 @@ module _ {card card′ : List ℕ} (more : Widened card card′) where
       → Means (toldBy card′ .kind) (toldBy card′ .l) (slotsOn card) b o
   as-second m = rw (more .kind, more .letters) at m
 
-  entered-as : (room : ℕ) → first (buildTests mostEntries card room) sound ≡ given sound → toldBy card′ .kind ≡ span
+  entered-as : (room : ℕ) → Passes card room → toldBy card′ .kind ≡ span
       → spans.Entered (toldBy card′ .l) (slotsOn card)
   entered-as room e k = rw (more .letters) at (card-entered card room e (more .kind ∙ k))
 
@@ -106,36 +105,42 @@ said-fits (given (settled noBuild n)) q = tt
 said-fits (given (unsettled n)) q = tt
 said-fits (refused n p) q = tt
 
-module _ (F F′ : List ℕ → Type 0) (before before′ : List ℕ) where
-  pub later-told : (a a′ : Answer Outcome) → FitsSaid F a → FitsSaid F′ a′ → NoLaterSaid a a′ → HasBuild (answerOf a) → Settles (answerOf a′)
-      → (s : List ℕ) × (t : List ℕ) × (F s × F′ t) × (Letters s before (lettersAfter a before) × Letters t before′ (lettersAfter a′ before′))
-      × (HasBuild (answerOf a′) × ((t ≡ s) ⊎ Before t s))
-  later-told (given (settled (sole s) n)) (given (settled (sole t) m)) f f′ h g k = (s, t, (f, f′), (refl, refl), (tt, inl h))
-  later-told (given (settled (sole s) n)) (given (settled (several t) m)) f f′ h g k = (s, t, (f, f′), (refl, refl), (tt, h))
-  later-told (given (settled (sole s) n)) (given (settled noBuild m)) f f′ h g k = absurd h
-  later-told (given (settled (several s) n)) (given (settled (sole t) m)) f f′ h g k = absurd h
-  later-told (given (settled (several s) n)) (given (settled (several t) m)) f f′ h g k = (s, t, (f, f′), (refl, refl), (tt, h))
-  later-told (given (settled (several s) n)) (given (settled noBuild m)) f f′ h g k = absurd h
-  later-told (given (settled noBuild n)) a′ f f′ h g k = absurd g
-  later-told (given (unsettled n)) a′ f f′ h g k = absurd g
-  later-told (refused n p) a′ f f′ h g k = absurd g
-  later-told (given (settled (sole s) n)) (given (unsettled m)) f f′ h g k = absurd k
-  later-told (given (settled (several s) n)) (given (unsettled m)) f f′ h g k = absurd k
-  later-told (given (settled (sole s) n)) (refused m p) f f′ h g k = absurd k
-  later-told (given (settled (several s) n)) (refused m p) f f′ h g k = absurd k
+-- what is said gives a build
+abbrev GivesBuild : Answer Outcome → Type 0
+GivesBuild (given (settled (sole s) n)) = Unit {0}
+GivesBuild (given (settled (several s) n)) = Unit {0}
+GivesBuild (given (settled noBuild n)) = ⊥
+GivesBuild (given (unsettled n)) = ⊥
+GivesBuild (refused n p) = ⊥
 
-pub several-told : (a a′ : Answer Outcome) → NoLaterSaid a a′ → IsSeveral (answerOf a) → Settles (answerOf a′) → IsSeveral (answerOf a′)
-several-told (given (settled (several s) n)) (given (settled (sole t) m)) h g k = absurd h
-several-told (given (settled (several s) n)) (given (settled (several t) m)) h g k = tt
-several-told (given (settled (several s) n)) (given (settled noBuild m)) h g k = absurd h
-several-told (given (settled (several s) n)) (given (unsettled m)) h g k = absurd k
-several-told (given (settled (several s) n)) (refused m p) h g k = absurd k
-several-told (given (settled (sole s) n)) a′ h g k = absurd g
-several-told (given (settled noBuild n)) a′ h g k = absurd g
-several-told (given (unsettled n)) a′ h g k = absurd g
-several-told (refused n p) a′ h g k = absurd g
+pub gives-build : (a : Answer Outcome) → HasBuild (answerOf a) → GivesBuild a
+gives-build a (n, k, e) =
+    ⊎-elim (λ h. let z = said-sole a (sym h) in rw (z .1) tt) (λ h. let z = said-several a (sym h) in rw (z .1) tt) e
 
-sole-narrowed : (o : Outcome) (t before before′ : List ℕ) {k : ℕ} → spans.Narrowed o (settled (sole t) k)
+-- where the second is settled
+module _ (F F′ : List ℕ → Type 0) (before before′ : List ℕ) (m : ℕ) where
+  pub later-told : (a : Answer Outcome) (v : Verdict) → FitsSaid F a → FitsSaid F′ (given (settled v m)) → NoLaterSaid a (given (settled v m))
+      → GivesBuild a
+      → (s : List ℕ) × (t : List ℕ) × (F s × F′ t)
+      × (Letters s before (lettersAfter a before) × Letters t before′ (lettersAfter (given (settled v m)) before′))
+      × (HasBuild (answerOf (given (settled v m))) × ((t ≡ s) ⊎ Before t s))
+  later-told (given (settled (sole s) n)) (sole t) f f′ h g = (s, t, (f, f′), (refl, refl), ((length t, m, inl refl), inl h))
+  later-told (given (settled (sole s) n)) (several t) f f′ h g = (s, t, (f, f′), (refl, refl), ((length t, m, inr refl), h))
+  later-told (given (settled (sole s) n)) noBuild f f′ h g = absurd h
+  later-told (given (settled (several s) n)) (sole t) f f′ h g = absurd h
+  later-told (given (settled (several s) n)) (several t) f f′ h g = (s, t, (f, f′), (refl, refl), ((length t, m, inr refl), h))
+  later-told (given (settled (several s) n)) noBuild f f′ h g = absurd h
+  later-told (given (settled noBuild n)) v f f′ h g = absurd g
+  later-told (given (unsettled n)) v f f′ h g = absurd g
+  later-told (refused n p) v f f′ h g = absurd g
+
+pub several-told : (s : List ℕ) (n m : ℕ) (v : Verdict) → NoLaterSaid (given (settled (several s) n)) (given (settled v m))
+    → IsSeveral (answerOf (given (settled v m)))
+several-told s n m (sole t) h = absurd h
+several-told s n m (several t) h = (length t, m, refl)
+several-told s n m noBuild h = absurd h
+
+sole-narrowed : (o : Outcome) (t before before′ : List ℕ) {k : ℕ} → Narrowed o (settled (sole t) k)
     → (j : ℕ) × (j ≤ k)
     × ((answerOf (given o) ≡ None j)
     ⊎ ((answerOf (given o) ≡ Sole (length t) j)
@@ -158,11 +163,11 @@ pub sole-narrowed-told : (o : Outcome) (t before before′ : List ℕ) {after af
     → after ≡ lettersAfter (given o) before
     → n ≡ length t
     → after′ ≡ map letterOf t ++ drop (length t) before′
-    → spans.Narrowed o (settled (sole t) k)
+    → Narrowed o (settled (sole t) k)
     → (j : ℕ) × (j ≤ k) × ((r ≡ None j) ⊎ ((r ≡ Sole n j) × (take n after ≡ take n after′)))
 sole-narrowed-told o t before before′ a out size out′ h = rw (a, out, size, out′) (sole-narrowed o t before before′ h)
 
-pub none-narrowed : (o : Outcome) {k : ℕ} → spans.Narrowed o (settled noBuild k) → (j : ℕ) × (j ≤ k) × (answerOf (given o) ≡ None j)
+pub none-narrowed : (o : Outcome) {k : ℕ} → Narrowed o (settled noBuild k) → (j : ℕ) × (j ≤ k) × (answerOf (given o) ≡ None j)
 none-narrowed o (j, e, h) = (j, h, ap (λ (x : Outcome). answerOf (given x)) e)
 
 -- where the tests hold, an outcome is said
@@ -178,24 +183,16 @@ means-larger : {kind l b c n : ℕ} {es : List Slot} {v : Verdict} → b ≤ c �
 means-larger h (on-pairs e p) = on-pairs e p
 means-larger h (on-spans e p) = on-spans e (spans-compare.means-larger h p)
 
--- an answer that settles the card is that under every larger budget
-pub same-for-larger : {card before after : List ℕ} {b c : ℕ} {r : BuildAnswer} → b ≤ c → Settles r
-    → Builds mostEntries card b before r after
-    → Builds mostEntries card c before r after
-same-for-larger {card} {before} {b = b} {c = c} h s p =
-    record { said = p .said; says = go (p .said) (rw (p .answer) at s) (p .says); answer = p .answer; output = p .output }
-  where
-    go : (a : Answer Outcome) → Settles (answerOf a) → Says mostEntries card b (length before) a → Says mostEntries card c (length before) a
-    go (given (settled (sole t) n)) s (tells e m) = tells e (means-larger h m)
-    go (given (settled (several t) n)) s (tells e m) = tells e (means-larger h m)
-    go (given (settled noBuild n)) s (tells e m) = tells e (means-larger h m)
-    go (given (unsettled n)) s q = absurd s
-    go (refused n k) s q = absurd s
+-- what settles the card is said of it under every larger budget, and with any output that has room
+pub settled-larger : {card : List ℕ} {b c room room′ n : ℕ} {v : Verdict} → b ≤ c → Passes card room′
+    → Says mostEntries card b room (given (settled v n))
+    → Says mostEntries card c room′ (given (settled v n))
+settled-larger h passes (tells e m) = tells passes (means-larger h m)
 
--- beyond the budget a span card is unsettled
-pub beyond : {card before after : List ℕ} {budget : ℕ} {r : BuildAnswer} → Builds mostEntries card budget before r after
-    → first (buildTests mostEntries card (length before)) sound ≡ given sound
-    → toldBy card .kind ≡ span
-    → budget < placements (toldBy card .l) (slotsOn card)
-    → r ≡ Unsettled budget
-beyond b e k h = b .answer ∙ ap answerOf (says-one (b .says) (tells e (on-spans k (spans.goes-on refl h))))
+-- and gives one sequence
+pub same-sequence : (v : Verdict) (n : ℕ) (before before′ : List ℕ)
+    → sequenceIn (answerOf (given (settled v n))) (lettersAfter (given (settled v n)) before)
+    ≡ sequenceIn (answerOf (given (settled v n))) (lettersAfter (given (settled v n)) before′)
+same-sequence (sole s) n before before′ = letters-start s before ∙ sym (letters-start s before′)
+same-sequence (several s) n before before′ = letters-start s before ∙ sym (letters-start s before′)
+same-sequence noBuild n before before′ = refl

@@ -1,10 +1,11 @@
 -- The client's three demands (document 00), of `builds::build` and of the round trip of reader and writer. `Builds mostEntries card budget
 -- before r after` is the contract of `build`: r is the answer, and `after` is the output, which was `before`. Each proof cites the laws of
--- the layers below. Assumes nothing.
-use mathlib.Core.Path.{_≡_, sym}
-use mathlib.Core.Logic.{_⊎_}
+-- the layers below. That each call ends stands in `Ends`. Assumes nothing.
+use mathlib.Core.Path.{_≡_, refl, sym, ap, _∙_}
+use mathlib.Core.Logic.{_⊎_, ⊎-elim}
 use mathlib.Core.List.{List, _++_}
 use Prim.Native.Nat.{ℕ, _≤_, _<_}
+use native.Mathlib.Omega.{arith}
 use lib.ListN.{length, take, drop}
 use Rattle.answers.specs.declared.Refusal.{Refusal}
 use Rattle.answers.specs.Answer.{given, refused, first, sound}
@@ -25,64 +26,43 @@ use Rattle.sequence.specs.Verdict.{Before}
 use Rattle.spans.specs.Walk.{placements}
 use Rattle.builds.specs.declared.BuildAnswer.{BuildAnswer}
 use Rattle.builds.specs.declared.BuildAnswer.the-variants.{Sole, Several, None, Unsettled, Refused}
-use Rattle.builds.specs.Building.{buildTests, slotsOn, entriesOn, Builds}
-use Rattle.builds.proofs.Determined.{builds-one}
-use Rattle.builds.proofs.build.Statement as build
-use Rattle.builds.proofs.build.Met as build-met
-use Rattle.card.proofs.admit.Statement as admit
-use Rattle.card.proofs.admit.Met as admit-met
-use Rattle.card.proofs.fetch_entry.Statement as fetch-entry
-use Rattle.card.proofs.fetch_entry.Met as fetch-entry-met
-use Rattle.card.proofs.Head.step.Statement as step
-use Rattle.card.proofs.Head.step.Met as step-met
-use Rattle.card.proofs.listing.admit_into.Statement as admit-into
-use Rattle.card.proofs.listing.admit_into.Met as admit-into-met
-use Rattle.writer.proofs.write.Statement as write
-use Rattle.writer.proofs.write.Met as write-met
-use Rattle.block.proofs.fetch.Statement as fetch
-use Rattle.block.proofs.fetch.Met as fetch-met
-use Rattle.block.proofs.companion.Statement as companion
-use Rattle.block.proofs.companion.Met as companion-met
-use Rattle.demands.specs.Demanded.{Fits, Matches, PlacementsOf, Settles, HasBuild, IsSeveral, Letters, Widened}
-use Rattle.demands.proofs.MeaningLaws.{means-tells, means-placements, means-unsettled, said-sole, said-several, said-none, said-unsettled, said-refused, says-means, says-refused, card-letters, card-entries, card-words}
-use Rattle.demands.proofs.CompareLaws.{said-later, said-narrowed, said-fits, later-told, several-told, sole-narrowed-told, none-narrowed, holds-given, same-for-larger, beyond}
+use Rattle.builds.specs.Building.{buildTests, slotsOn, entriesOn, answerOf, lettersAfter, Builds}
+use Rattle.builds.proofs.Determined.{says-one, told-one, builds-one}
+use Rattle.demands.specs.Demanded.{Fits, Matches, Passes, PlacementsOf, Meant, Settles, HasBuild, IsSeveral, Letters, sequenceIn, Widened}
+use Rattle.demands.proofs.MeaningLaws.{said-sole, said-several, said-none, settles-given, says-holds, card-kind, card-letters, card-entries, card-words}
+use Rattle.demands.proofs.MeantLaws.{said-meant, meant-builds}
+use Rattle.demands.proofs.CompareLaws.{said-later, said-narrowed, said-fits, gives-build, later-told, several-told, sole-narrowed-told, none-narrowed, holds-given, settled-larger, same-sequence}
 use Rattle.demands.proofs.MatchedLaws.{build-matches, matches-build}
 
--- ---- demand 1
+-- ---- demands 1 and 2: what an answer means
 
--- "For every card, budget and lent buffer there is one of the answers listed in document 01, and the call ends." `build` has no
--- `requires`, and this is the theorem that each call of it ends, with an answer and an output that meet its contract
-pub build-ends : {M : Type 1} → build.statement M
-build-ends = build-met.met
+-- as one statement, by its cases; and the other way round: what is meant is answered, with that output, and nothing else. Each theorem
+-- below on an answer of build is a case of one of the two
+module _ {card before after : List ℕ} {budget : ℕ} {r : BuildAnswer} (b : Builds mostEntries card budget before r after) where
+  pub means : Meant card budget before r after
+  means = rw (b .answer, b .output) (said-meant before (b .said) (b .says))
 
--- the same of the reader's operations, of the writer and of the block layer
-pub admit-ends : {M : Type 1} → admit.statement M
-admit-ends = admit-met.met
+  pub means-when : (r′ : BuildAnswer) {after′ : List ℕ} → Meant card budget before r′ after′ → (r ≡ r′) × (after ≡ after′)
+  means-when r′ m = builds-one b (meant-builds r′ m)
 
-pub entry-ends : {M : Type 1} → fetch-entry.statement M
-entry-ends = fetch-entry-met.met
+-- any two outcomes that meet the contract are one
+pub one-outcome : {card before after after′ : List ℕ} {budget : ℕ} {r r′ : BuildAnswer} → Builds mostEntries card budget before r after
+    → Builds mostEntries card budget before r′ after′
+    → (r ≡ r′) × (after ≡ after′)
+one-outcome = builds-one
 
-pub step-ends : {M : Type 1} → step.statement M
-step-ends = step-met.met
+-- ---- demand 1: refusals
 
-pub lists-end : {M : Type 1} → admit-into.statement M
-lists-end = admit-into-met.met
+-- "A refusal carries its number and place, and no byte of a lent buffer differs after it."
+pub refused-untouched : {card before after : List ℕ} {budget : ℕ} {r : Refusal} → Builds mostEntries card budget before (Refused r) after
+    → (first (buildTests mostEntries card (length before)) sound ≡ refused (r .number) (r .place)) × (after ≡ before)
+refused-untouched b = means b
 
-pub write-ends : {M : Type 1} → write.statement M
-write-ends = write-met.met
-
-pub fetch-ends : {M : Type 1} → fetch.statement M
-fetch-ends = fetch-met.met
-
-pub companion-ends : {M : Type 1} → companion.statement M
-companion-ends = companion-met.met
-
-module _ {card before after : List ℕ} {budget : ℕ} where
-  -- "A refusal carries its number and place, and no byte of a lent buffer differs after it."
-  pub refused-untouched : {r : Refusal} → Builds mostEntries card budget before (Refused r) after
-      → (first (buildTests mostEntries card (length before)) sound ≡ refused (r .number) (r .place)) × (after ≡ before)
-  refused-untouched b =
-      let a = said-refused (b .said) (b .answer) in (says-refused (rw a at (b .says)), rw a at (b .output))
+-- and a card that a test fails is refused so
+pub refused-when : {card before after : List ℕ} {budget : ℕ} {r : BuildAnswer} → Builds mostEntries card budget before r after
+    → {n p : ℕ} → first (buildTests mostEntries card (length before)) sound ≡ refused n p
+    → (r ≡ Refused (record { number = n; place = p })) × (after ≡ before)
+refused-when b {n} {p} e = means-when b (Refused (record { number = n; place = p })) (e, refl)
 
 -- the same of the writer, and of admitting into lent lists
 pub write-refused-untouched : {kind l : ℕ} {words ones twos before after : List ℕ} {r : Refusal}
@@ -96,17 +76,24 @@ pub admit-refused-untouched : {card words ones twos words′ ones′ twos′ : L
 admit-refused-untouched did =
     let no = sym (did .answer) in (no, (rw no at (did .in-words), rw no at (did .in-ones), rw no at (did .in-twos)))
 
--- any two outcomes that meet the contract are one
-pub one-outcome : {card before after after′ : List ℕ} {budget : ℕ} {r r′ : BuildAnswer} → Builds mostEntries card budget before r after
-    → Builds mostEntries card budget before r′ after′
-    → (r ≡ r′) × (after ≡ after′)
-one-outcome = builds-one
+-- and lists that a test fails, or a card, are refused so
+pub write-refused-when : {kind l : ℕ} {words ones twos before after : List ℕ} {r : Written} {n p : ℕ}
+    → Writes mostEntries kind l words ones twos before r after
+    → writing mostEntries kind l words ones twos (length before) ≡ refused n p
+    → (saysWritten r ≡ refused n p) × (after ≡ before)
+write-refused-when did e = (did .answer ∙ e, rw e at (did .bytes))
+
+pub admit-refused-when : {card words ones twos words′ ones′ twos′ : List ℕ} {r : Admitted} {n p : ℕ}
+    → Listed mostEntries card words ones twos r words′ ones′ twos′
+    → listing mostEntries card words ones twos ≡ refused n p
+    → (saysAdmitted r ≡ refused n p) × ((words′ ≡ words) × (ones′ ≡ ones) × (twos′ ≡ twos))
+admit-refused-when did e = (did .answer ∙ e, (rw e at (did .in-words), rw e at (did .in-ones), rw e at (did .in-twos)))
 
 -- ---- demand 2
 
 -- "A build is a sequence whose words, in order, can be matched one to one with the card's entries, each at an allowed place counted from
 -- 0": what fits a card is what is matched with its entries, and nothing else
-module _ (card : List ℕ) (room : ℕ) (hold : first (buildTests mostEntries card room) sound ≡ given sound) {s : List ℕ} where
+module _ (card : List ℕ) (room : ℕ) (hold : Passes card room) {s : List ℕ} where
   pub fits-matches : Fits card s → Matches (toldBy card .l) (entriesOn card) s
   fits-matches b = build-matches (card-letters card room hold) (card-entries card room hold) b
 
@@ -118,43 +105,63 @@ module _ {card before after : List ℕ} {budget : ℕ} where
   pub sole-means : {n k : ℕ} → Builds mostEntries card budget before (Sole n k) after
       → (s : List ℕ) × (Fits card s × ((t : List ℕ) → Fits card t → t ≡ s))
       × ((n ≡ length s) × Letters s before after)
-  sole-means b =
-      let a = said-sole (b .said) (b .answer) in (a .0, means-tells (says-means (rw (a .1) at (b .says))), (a .2, rw (a .1) at (b .output)))
+  sole-means b = means b .2
 
   -- "several means two or more and gives the alphabetically first"
   pub several-means : {n k : ℕ} → Builds mostEntries card budget before (Several n k) after
       → (s : List ℕ)
       × (Fits card s × ((t : List ℕ) × Fits card t × (t ≡ s → ⊥)) × ((t : List ℕ) → Fits card t → (t ≡ s) ⊎ Before s t))
       × ((n ≡ length s) × Letters s before after)
-  several-means b =
-      let a = said-several (b .said) (b .answer) in (a .0, means-tells (says-means (rw (a .1) at (b .says))), (a .2, rw (a .1) at (b .output)))
+  several-means b = means b .2
 
   -- "none means none"
   pub none-means : {k : ℕ} → Builds mostEntries card budget before (None k) after → ((t : List ℕ) → Fits card t → ⊥) × (after ≡ before)
-  none-means b = let a = said-none (b .said) (b .answer) in (means-tells (says-means (rw a at (b .says))), rw a at (b .output))
+  none-means b = means b .2
 
-  -- "Unsettled comes only on span cards, exactly when the walk of 01 needs more placements than the budget": then, and not else
+  -- "Unsettled comes only on span cards, exactly when the walk of 01 needs more placements than the budget": then, and (`unsettled-when`) not
+  -- else
   pub unsettled-means : {k : ℕ} → Builds mostEntries card budget before (Unsettled k) after
       → ((toldBy card .kind ≡ span) × (k ≡ budget) × (budget < placements (toldBy card .l) (slotsOn card))) × (after ≡ before)
-  unsettled-means b =
-      let a = said-unsettled (b .said) (b .answer) in (means-unsettled (says-means (rw a at (b .says))), rw a at (b .output))
-
-  pub unsettled-when : {r : BuildAnswer} → Builds mostEntries card budget before r after
-      → first (buildTests mostEntries card (length before)) sound ≡ given sound
-      → toldBy card .kind ≡ span
-      → budget < placements (toldBy card .l) (slotsOn card)
-      → r ≡ Unsettled budget
-  unsettled-when b e k h = beyond b e k h
+  unsettled-means b = means b .1
 
   -- "On span cards placements are that walk's, cut at the budget.": here those of an answer that settles
   pub sole-placements : {n k : ℕ} → Builds mostEntries card budget before (Sole n k) after → PlacementsOf card budget k
-  sole-placements b = let a = said-sole (b .said) (b .answer) in means-placements (says-means (rw (a .1) at (b .says)))
+  sole-placements b = means b .1
 
   pub several-placements : {n k : ℕ} → Builds mostEntries card budget before (Several n k) after → PlacementsOf card budget k
-  several-placements b = let a = said-several (b .said) (b .answer) in means-placements (says-means (rw (a .1) at (b .says)))
+  several-placements b = means b .1
 
   pub none-placements : {k : ℕ} → Builds mostEntries card budget before (None k) after → PlacementsOf card budget k
-  none-placements b = let a = said-none (b .said) (b .answer) in means-placements (says-means (rw a at (b .says)))
+  none-placements b = means b .1
+
+-- the same the other way round: of a card whose tests hold, what fits it and whether its placements are within the budget give the answer.
+-- There are such placements where the walk's are within the budget, and on a pair card always
+pub placed-when : (card : List ℕ) (room : ℕ) {budget : ℕ} → Passes card room
+    → (toldBy card .kind ≡ span → placements (toldBy card .l) (slotsOn card) ≤ budget)
+    → (k : ℕ) × PlacementsOf card budget k
+placed-when card room passes within =
+    ⊎-elim (λ e. (0, record { on-spans = λ f. absurd (omega (arith, e, f)); on-pairs = λ f. refl }))
+    (λ e. (placements (toldBy card .l) (slotsOn card), record { on-spans = λ f. (refl, within f); on-pairs = λ f. absurd (omega (arith, e, f)) }))
+    (card-kind card room passes)
+
+module _ {card before after : List ℕ} {budget : ℕ} {r : BuildAnswer} (b : Builds mostEntries card budget before r after)
+    (passes : Passes card (length before)) where
+  module _ {k : ℕ} (placed : PlacementsOf card budget k) where
+    pub sole-when : {s : List ℕ} → Fits card s → ((t : List ℕ) → Fits card t → t ≡ s) → (r ≡ Sole (length s) k) × Letters s before after
+    sole-when {s} fits only = means-when b (Sole (length s) k) (passes, placed, (s, (fits, only), (refl, refl)))
+
+    pub several-when : {s : List ℕ} → Fits card s → (t : List ℕ) → Fits card t → (t ≡ s → ⊥)
+        → ((u : List ℕ) → Fits card u → (u ≡ s) ⊎ Before s u)
+        → (r ≡ Several (length s) k) × Letters s before after
+    several-when {s} fits t also other first-of-all =
+        means-when b (Several (length s) k) (passes, placed, (s, (fits, (t, also, other), first-of-all), (refl, refl)))
+
+    pub none-when : ((t : List ℕ) → Fits card t → ⊥) → (r ≡ None k) × (after ≡ before)
+    none-when nobody = means-when b (None k) (passes, placed, (nobody, refl))
+
+  pub unsettled-when : toldBy card .kind ≡ span → budget < placements (toldBy card .l) (slotsOn card)
+      → (r ≡ Unsettled budget) × (after ≡ before)
+  unsettled-when kind over = means-when b (Unsettled budget) (passes, ((kind, refl, over), refl))
 
 -- "Entries that the writer accepts read back as themselves"
 pub written-reads-back : {kind l : ℕ} {words ones twos before after : List ℕ} {r : Written} {n : ℕ}
@@ -181,19 +188,24 @@ module _ {card card′ before before′ after after′ : List ℕ} {b : ℕ} {r 
       → (s : List ℕ) × (t : List ℕ) × (Fits card s × Fits card′ t) × (Letters s before after × Letters t before′ after′)
       × (HasBuild r′ × ((t ≡ s) ⊎ Before t s))
   no-later q g k =
+      let z = settles-given (q .said) (rw (q .answer) at k) in
       rw (p .output, q .output, q .answer)
-      (later-told (Fits card) (Fits card′) before before′ (p .said) (q .said) (said-fits (p .said) (p .says)) (said-fits (q .said) (q .says))
-      (said-later more (p .says) (q .says)) (rw (p .answer) at g) (rw (q .answer) at k))
+      (rw (z .2)
+      (later-told (Fits card) (Fits card′) before before′ (z .1) (p .said) (z .0) (said-fits (p .said) (p .says))
+      (rw (z .2) at (said-fits (q .said) (q .says))) (rw (z .2) at (said-later more (p .says) (q .says)))
+      (gives-build (p .said) (rw (p .answer) at g))))
 
   -- "several stays several"
   pub several-stays : {c : ℕ} {r′ : BuildAnswer} → Builds mostEntries card′ c before′ r′ after′ → IsSeveral r → Settles r′ → IsSeveral r′
-  several-stays q g k =
-      rw (q .answer)
-      (several-told (p .said) (q .said) (said-later more (p .says) (q .says)) (rw (p .answer) at g) (rw (q .answer) at k))
+  several-stays q (n, j, e) k =
+      let a = said-several (p .said) (sym e ∙ p .answer) in
+      let z = settles-given (q .said) (rw (q .answer) at k) in
+      let later = said-later more (p .says) (q .says) in
+      rw (q .answer) (rw (z .2) (several-told (a .0) j (z .1) (z .0) (rw (a .1) at (rw (z .2) at later))))
 
   -- "If a budget settles the second as sole or none, it settles the first in no more placements, as none or that same sole sequence.":
   -- where there is "room for the sequence" on the first too
-  module _ (hold : first (buildTests mostEntries card (length before)) sound ≡ given sound) where
+  module _ (hold : Passes card (length before)) where
     pub sole-narrows : {n k : ℕ} → Builds mostEntries card′ b before′ (Sole n k) after′
         → (j : ℕ) × (j ≤ k) × ((r ≡ None j) ⊎ ((r ≡ Sole n j) × (take n after ≡ take n after′)))
     sole-narrows q =
@@ -210,9 +222,27 @@ module _ {card card′ before before′ after after′ : List ℕ} {b : ℕ} {r 
         let h = said-narrowed more (p .says) (q .says) in
         rw (p .answer, a .1) (none-narrowed (a .0) (rw (a .1, z) at h))
 
--- "On one card, a settled answer and its placements stay the same under every larger budget.": and so does the output
-pub larger-budget-same : {card before after after′ : List ℕ} {b c : ℕ} {r r′ : BuildAnswer} → b ≤ c → Settles r
+-- "On one card, a settled answer and its placements stay the same under every larger budget.": and so does the sequence, whatever the second
+-- output was, if it has room
+pub larger-budget-same : {card before before′ after after′ : List ℕ} {b c : ℕ} {r r′ : BuildAnswer} → b ≤ c → Settles r
+    → Builds mostEntries card b before r after
+    → Builds mostEntries card c before′ r′ after′
+    → Passes card (length before′)
+    → (r ≡ r′) × (sequenceIn r after ≡ sequenceIn r′ after′)
+larger-budget-same {before} {before′} h s p q passes =
+    let a = settles-given (p .said) (rw (p .answer) at s) in
+    let same = says-one (q .says) (settled-larger h passes (rw (a .2) at (p .says))) in (
+      p .answer ∙ ap answerOf (a .2 ∙ sym same) ∙ sym (q .answer),
+      rw (p .answer, p .output, q .answer, q .output) (rw (a .2, same) (same-sequence (a .0) (a .1) before before′)),
+    )
+
+-- with one output for both, no byte of it differs
+pub larger-budget-output : {card before after after′ : List ℕ} {b c : ℕ} {r r′ : BuildAnswer} → b ≤ c → Settles r
     → Builds mostEntries card b before r after
     → Builds mostEntries card c before r′ after′
     → (r ≡ r′) × (after ≡ after′)
-larger-budget-same h s p q = builds-one (same-for-larger h s p) q
+larger-budget-output {before} h s p q =
+    let a = settles-given (p .said) (rw (p .answer) at s) in
+    let says = rw (a .2) at (p .says) in
+    told-one answerOf before (settled-larger h (says-holds says) says) (q .says) (p .answer ∙ ap answerOf (a .2)) (q .answer)
+    (p .output ∙ ap (λ x. lettersAfter x before) (a .2)) (q .output)

@@ -3,7 +3,7 @@
 use mathlib.Core.Path.{_≡_, refl, ap, _∙_}
 use mathlib.Core.List.{List, map}
 use Prim.Native.Nat.{ℕ, _≤_}
-use Rattle.answers.specs.Answer.{given, first, sound}
+use Rattle.answers.specs.Answer.{given, sound}
 use Rattle.entries.specs.declared.Format.{Format}
 use Rattle.entries.specs.Slot.{slotFrom, entriesIn}
 use Rattle.layout.specs.Bounds.{mostEntries}
@@ -17,9 +17,10 @@ use Rattle.sequence.specs.Lists.{In}
 use Rattle.sequence.specs.Tables.{Table, storedIn, tables}
 use Rattle.sequence.proofs.ListLaws.{paired-refl}
 use Rattle.sequence.proofs.Tables.{map-agree}
-use Rattle.builds.specs.Building.{lettersIn, buildTests, entriesOn}
+use Rattle.builds.specs.Building.{lettersIn, entriesOn}
 use Rattle.builds.proofs.CardLaws.{has-room}
-use Rattle.demands.specs.Demanded.{kindOf, OnCard, Widened}
+use Rattle.demands.specs.Demanded.{Passes, Widened}
+use Rattle.demands.specs.Tables.{kindOf, OnCard}
 use Rattle.demands.proofs.MeaningLaws.{made-slots}
 use Rattle.demands.proofs.Examples.{wordsOf, onesOf, twosOf, tested, all-hold, all-stored}
 
@@ -28,7 +29,7 @@ use Rattle.demands.proofs.Examples.{wordsOf, onesOf, twosOf, tested, al
 -- tables whose lists hold and have their entries have cards
 card-with : (t : Table) → tested t ≡ given sound → entriesIn (wordsOf t) (onesOf t) (twosOf t) ≡ storedIn t
     → (card : List ℕ) × OnCard t card
-    × ((room : ℕ) → lettersIn (toldBy card) ≤ room → first (buildTests mostEntries card room) sound ≡ given sound)
+    × ((room : ℕ) → lettersIn (toldBy card) ≤ room → Passes card room)
 card-with t hold stored =
     let f = formatFor (kindOf t) 2 (wordsOf t) in
     let slots = slotFrom (wordsOf t) (onesOf t) (twosOf t) in
@@ -45,13 +46,13 @@ pub cards-of : (ts : List Table) → map tested ts ≡ map (λ t. given sound) t
     → map (λ t. entriesIn (wordsOf t) (onesOf t) (twosOf t)) ts ≡ map storedIn ts
     → (t : Table) → In t ts
     → (card : List ℕ) × OnCard t card
-    × ((room : ℕ) → lettersIn (toldBy card) ≤ room → first (buildTests mostEntries card room) sound ≡ given sound)
+    × ((room : ℕ) → lettersIn (toldBy card) ≤ room → Passes card room)
 cards-of ts hold stored t h =
     card-with t (map-agree tested (λ u. given sound) h hold) (map-agree (λ u. entriesIn (wordsOf u) (onesOf u) (twosOf u)) storedIn h stored)
 
 pub table-card : (t : Table) → In t tables
     → (card : List ℕ) × OnCard t card
-    × ((room : ℕ) → lettersIn (toldBy card) ≤ room → first (buildTests mostEntries card room) sound ≡ given sound)
+    × ((room : ℕ) → lettersIn (toldBy card) ≤ room → Passes card room)
 table-card = cards-of tables all-hold all-stored
 
 -- ---- two cards

@@ -1,20 +1,22 @@
 -- Laws of what build says of a card, by which the demands are read off. Assumes nothing.
 use mathlib.Core.Path.{_≡_, refl, sym, ap}
+use mathlib.Core.Logic.{_⊎_, inl, inr, ⊎-map, ⊎-elim}
 use mathlib.Core.List.{List, map}
 use Prim.Native.Nat.{ℕ, _+_, _^_, _<_}
 use native.Mathlib.Omega.{arith}
 use lib.ListN.{length, length-map}
-use borrow.Author.Tests.{leb-true}
+use lib.Dec.{eqb}
+use borrow.Author.Tests.{leb-true, eqb-true}
 use Rattle.answers.specs.declared.Refusal.{Refusal}
 use Rattle.answers.specs.Answer.{Answer, given, refused, first, sound}
 use Rattle.answers.specs.Row.{row}
 use Rattle.answers.proofs.RowLaws.{length-row, row-same}
-use Rattle.answers.proofs.Tests.{both}
+use Rattle.answers.proofs.Tests.{both, either}
 use Rattle.entries.specs.declared.Format.{Format}
 use Rattle.entries.specs.declared.Slot.{Slot}
 use Rattle.entries.specs.Entry.{entryOf}
 use Rattle.entries.specs.declared.Entry.{Entry}
-use Rattle.entries.specs.Fault.{span, leastLength}
+use Rattle.entries.specs.Fault.{pair, span, leastLength}
 use Rattle.entries.proofs.Laws.{sound-has}
 use Rattle.layout.specs.Bounds.{leastEntries, mostEntries}
 use Rattle.layout.specs.Layout.{toldBy, slotOf}
@@ -39,7 +41,7 @@ use Rattle.builds.specs.Building.{buildTests, slotsOn, entriesOn, Means, on-pai
 use Rattle.builds.specs.From.{Sound}
 use Rattle.builds.proofs.SoundLaws.{spans-entered}
 use Rattle.builds.proofs.CardLaws.{order-held, its-entries}
-use Rattle.demands.specs.Demanded.{Settles, PlacementsOf}
+use Rattle.demands.specs.Demanded.{Passes, PlacementsOf, HasBuild, Settles}
 
 -- ---- what an outcome means, whichever the kind
 
@@ -134,9 +136,20 @@ said-refused (given (unsettled j)) e = absurd (omega (arith, ap which e))
 
 -- what settles a card is a verdict
 pub settles-given : (a : Answer Outcome) → Settles (answerOf a) → (v : Verdict) × (n : ℕ) × (a ≡ given (settled v n))
-settles-given (given (settled v n)) h = (v, n, refl)
-settles-given (given (unsettled n)) h = absurd h
-settles-given (refused n p) h = absurd h
+settles-given a s = ⊎-elim built nobody s
+  where
+    built : HasBuild (answerOf a) → (v : Verdict) × (n : ℕ) × (a ≡ given (settled v n))
+    built (n, k, e) =
+        ⊎-elim (λ h. let z = said-sole a (sym h) in (sole (z .0), k, z .1)) (λ h. let z = said-several a (sym h) in (several (z .0), k, z .1)) e
+
+    nobody : (k : ℕ) × (answerOf a ≡ None k) → (v : Verdict) × (n : ℕ) × (a ≡ given (settled v n))
+    nobody (k, h) = (noBuild, k, said-none a (sym h))
+
+-- and a verdict settles it
+pub verdict-settles : (v : Verdict) (n : ℕ) → Settles (answerOf (given (settled v n)))
+verdict-settles (sole s) n = inl (length s, n, inl refl)
+verdict-settles (several s) n = inl (length s, n, inr refl)
+verdict-settles noBuild n = inr (n, refl)
 
 -- ---- what is said holds
 
@@ -152,7 +165,7 @@ module _ {limit budget room : ℕ} {card : List ℕ} where
   says-refused (refuses e) = e
 
 -- the entries of a span card whose tests hold are admitted
-pub card-entered : (card : List ℕ) (room : ℕ) → first (buildTests mostEntries card room) sound ≡ given sound → toldBy card .kind ≡ span
+pub card-entered : (card : List ℕ) (room : ℕ) → Passes card room → toldBy card .kind ≡ span
     → spans.Entered (toldBy card .l) (slotsOn card)
 card-entered card room e k =
     let admitted = admission-given mostEntries card (order-held mostEntries card room e) in
@@ -161,10 +174,15 @@ card-entered card room e k =
     record { hold = accepted-lists (its-accepted mostEntries card admitted) } in
     rw (sym (its-entries mostEntries card admitted)) (spans-entered (rw k at own))
 
--- what a card whose tests hold has: letters, entries, and words of so many letters
-module _ (card : List ℕ) (room : ℕ) (e : first (buildTests mostEntries card room) sound ≡ given sound) where
+-- what a card whose tests hold has: a kind, letters, entries, and words of so many letters
+module _ (card : List ℕ) (room : ℕ) (e : Passes card room) where
   reads : Reads mostEntries card
   reads = holds-reads mostEntries card (order-held mostEntries card room e)
+
+  pub card-kind : (toldBy card .kind ≡ pair) ⊎ (toldBy card .kind ≡ span)
+  card-kind =
+      let kind = toldBy card .kind in
+      ⊎-map (eqb-true kind pair) (eqb-true kind span) (either (eqb kind pair) (eqb kind span) (reads .kind))
 
   pub card-letters : 0 < toldBy card .l
   card-letters = let b = both _ _ (reads .letters) in omega (arith, leb-true leastLength (toldBy card .l) (b .0))

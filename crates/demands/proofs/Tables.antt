@@ -6,7 +6,7 @@ use mathlib.Core.Logic.{⊎-elim}
 use mathlib.Core.List.{List, map}
 use Prim.Native.Nat.{ℕ, _≤_}
 use lib.ListN.{length}
-use Rattle.answers.specs.Answer.{Answer, given, first, sound}
+use Rattle.answers.specs.Answer.{Answer, given}
 use Rattle.entries.specs.Fault.{pair, span}
 use Rattle.layout.specs.Bounds.{mostEntries}
 use Rattle.sequence.specs.Lists.{In}
@@ -18,9 +18,10 @@ use Rattle.spans.proofs.Tables.{spans-settle, s1-unsettled}
 use Rattle.pairs.proofs.Tables.{pairs-hold}
 use Rattle.builds.specs.declared.BuildAnswer.{BuildAnswer}
 use Rattle.builds.specs.declared.BuildAnswer.the-variants.{Unsettled}
-use Rattle.builds.specs.Building.{buildTests, Means, on-pairs, on-spans, tells, answerOf, lettersAfter, Builds}
+use Rattle.builds.specs.Building.{Means, on-pairs, on-spans, tells, answerOf, lettersAfter, Builds}
 use Rattle.builds.proofs.Determined.{says-one}
-use Rattle.demands.specs.Demanded.{kindOf, Holds, OnCard}
+use Rattle.demands.specs.Demanded.{Passes}
+use Rattle.demands.specs.Tables.{kindOf, Holds, OnCard}
 
 pairs-kind : map kindOf pairTables ≡ map (λ t. pair) pairTables
 pairs-kind = refl
@@ -36,7 +37,7 @@ tables-hold t h budget g =
 
 -- what build answers, and writes, on a card whose tests hold and that has an outcome
 module _ {card before after : List ℕ} {budget : ℕ} {r : BuildAnswer} (b : Builds mostEntries card budget before r after)
-    (hold : first (buildTests mostEntries card (length before)) sound ≡ given sound)
+    (hold : Passes card (length before))
     (t : Table) (on : OnCard t card) where
   outcome-answered : {o : Outcome} → Means (kindOf t) 2 (storedIn t) budget o
       → (r ≡ answerOf (given o)) × (after ≡ lettersAfter (given o) before)
@@ -52,7 +53,7 @@ module _ {card before after : List ℕ} {budget : ℕ} {r : BuildAnswer} (b : Bu
 
 -- S1: "budget 7 gives Unsettled"
 pub s1-at-seven : {card before after : List ℕ} {r : BuildAnswer} → Builds mostEntries card 7 before r after
-    → first (buildTests mostEntries card (length before)) sound ≡ given sound
+    → Passes card (length before)
     → OnCard s1 card
     → (r ≡ Unsettled 7) × (after ≡ before)
 s1-at-seven b hold on = outcome-answered b hold s1 on (on-spans refl s1-unsettled)

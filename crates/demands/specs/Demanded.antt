@@ -1,36 +1,37 @@
--- What the demands speak of, over cards and what build says of them.
+-- What the demands speak of, over cards and what build answers on them.
 --   Fits card s              == the sequence s is a build of the card
 --   Matches l es s           == the same, as the client words it
+--   Passes card room         == nothing is refused of the card: it is admitted, and there is room for its sequence
 --   PlacementsOf card budget k
 --                            == an answer that settles the card under the budget may give k placements
---   kindOf t                 == the kind of the table t
---   Holds ts                 == what build says of each table in ts is what 01 says of it, at every budget not below its placements
---   OnCard t card            == the card has the entries of the table t
---   Widened card card′       == two cards as demand 3 takes them, the second of which allows more
---   Settles r, HasBuild r, IsSeveral r
---                            == the answer r settles the card, gives a build, says that there are several
 --   Letters s before after   == the sequence s stands at the start of the output
+--   Meant card budget before r after
+--                            == what the answer r means, by its cases, with the output after it
+--   sequenceIn r after       == the sequence that the answer r gives, as it stands in the output
+--   Widened card card′       == two cards as demand 3 takes them, the second of which allows more
+--   HasBuild r, IsSeveral r, Settles r
+--                            == the answer r gives a build, says that there are several, settles the card
 -- Assumes nothing.
 use mathlib.Core.Path.{_≡_}
+use mathlib.Core.Logic.{_⊎_}
 use mathlib.Core.List.{List, [], _∷_, _++_, map}
 use mathlib.Core.Bool.{true}
-use Prim.Native.Nat.{ℕ, suc, _+_, _≤_}
+use Prim.Native.Nat.{ℕ, suc, _+_, _≤_, _<_}
 use lib.ListN.{length, take, drop}
+use Rattle.answers.specs.Answer.{given, refused, first, sound}
 use Rattle.letters.specs.Letters.{letterOf}
-use Rattle.entries.specs.declared.Places.the-variants.{One, Two, Span}
-use Rattle.entries.specs.declared.Places.{Places}
 use Rattle.entries.specs.declared.Entry.{Entry}
 use Rattle.entries.specs.Entry.{allows}
 use Rattle.entries.specs.Fault.{pair, span}
+use Rattle.layout.specs.Bounds.{mostEntries}
 use Rattle.layout.specs.Layout.{toldBy}
-use Rattle.sequence.specs.Lists.{In, Reordered, Paired}
+use Rattle.sequence.specs.Lists.{Reordered, Paired}
 use Rattle.sequence.specs.Build.{lettersOf, Build}
-use Rattle.sequence.specs.Verdict.{settled, Widens}
-use Rattle.sequence.specs.Tables.{Table, storedIn}
+use Rattle.sequence.specs.Verdict.{sole, several, noBuild, Tells, Widens}
 use Rattle.spans.specs.Walk.{placements}
 use Rattle.builds.specs.declared.BuildAnswer.{BuildAnswer}
 use Rattle.builds.specs.declared.BuildAnswer.the-variants.{Sole, Several, None, Unsettled, Refused}
-use Rattle.builds.specs.Building.{slotsOn, entriesOn, Means}
+use Rattle.builds.specs.Building.{buildTests, slotsOn, entriesOn}
 
 -- the sequence s is a build of the card (`Build`: what an arrangement of its entries spells)
 abbrev pub Fits : List ℕ → List ℕ → Type 0
@@ -49,60 +50,58 @@ pub record Matches (l : ℕ) (es : List Entry) (s : List ℕ) : Type 0 where
   pub letters : length s + 1 ≡ length es + l
   pub matched : (j : ℕ) (e : Entry) → At j e order → (take l (drop j s) ≡ lettersOf l (e .word)) × (allows (e .places) j ≡ true)
 
+-- every test of build holds: the card is admitted, and there is "room for the sequence"
+abbrev pub Passes : List ℕ → ℕ → Type 0
+Passes card room = first (buildTests mostEntries card room) sound ≡ given sound
+
 -- "On span cards placements are that walk's, cut at the budget."; "On a pair card placements are 0"
 pub record PlacementsOf (card : List ℕ) (budget k : ℕ) : Type 0 where
   pub on-spans : toldBy card .kind ≡ span → (k ≡ placements (toldBy card .l) (slotsOn card)) × (k ≤ budget)
   pub on-pairs : toldBy card .kind ≡ pair → k ≡ 0
 
-abbrev pub Settles : BuildAnswer → Type 0
-Settles (Sole n k) = Unit {0}
-Settles (Several n k) = Unit {0}
-Settles (None k) = Unit {0}
-Settles (Unsettled k) = ⊥
-Settles (Refused r) = ⊥
-
--- the answer gives a build
-abbrev pub HasBuild : BuildAnswer → Type 0
-HasBuild (Sole n k) = Unit {0}
-HasBuild (Several n k) = Unit {0}
-HasBuild (None k) = ⊥
-HasBuild (Unsettled k) = ⊥
-HasBuild (Refused r) = ⊥
-
-abbrev pub IsSeveral : BuildAnswer → Type 0
-IsSeveral (Sole n k) = ⊥
-IsSeveral (Several n k) = Unit {0}
-IsSeveral (None k) = ⊥
-IsSeveral (Unsettled k) = ⊥
-IsSeveral (Refused r) = ⊥
-
 -- the letters of s stand at the start of the output, and its later bytes are as they were
 abbrev pub Letters : List ℕ → List ℕ → List ℕ → Type 0
 Letters s before after = after ≡ map letterOf s ++ drop (length s) before
 
--- "Written word{places} or word[first,last]": a pair card's entries and a span card's
-abbrev pub kindBy : Places → ℕ
-kindBy (One p) = pair
-kindBy (Two p q) = pair
-kindBy (Span f g) = span
+-- ---- demands 1 and 2: the answers, by their cases
 
-abbrev pub kindIn : List Entry → ℕ
-kindIn [] = pair
-kindIn (e ∷ es) = kindBy (e .places)
+-- "Sole means exactly one sequence fits, several means two or more and gives the alphabetically first, none means none. Unsettled comes
+-- only on span cards, exactly when the walk of 01 needs more placements than the budget."; "A refusal carries its number and place, and no
+-- byte of a lent buffer differs after it."
+abbrev pub Meant : List ℕ → ℕ → List ℕ → BuildAnswer → List ℕ → Type 0
+Meant card budget before (Sole n k) after =
+    Passes card (length before) × PlacementsOf card budget k
+    × ((s : List ℕ) × Tells (Fits card) (sole s) × ((n ≡ length s) × Letters s before after))
+Meant card budget before (Several n k) after =
+    Passes card (length before) × PlacementsOf card budget k
+    × ((s : List ℕ) × Tells (Fits card) (several s) × ((n ≡ length s) × Letters s before after))
+Meant card budget before (None k) after =
+    Passes card (length before) × PlacementsOf card budget k × (Tells (Fits card) noBuild × (after ≡ before))
+Meant card budget before (Unsettled k) after =
+    Passes card (length before)
+    × (((toldBy card .kind ≡ span) × (k ≡ budget) × (budget < placements (toldBy card .l) (slotsOn card))) × (after ≡ before))
+Meant card budget before (Refused r) after =
+    (first (buildTests mostEntries card (length before)) sound ≡ refused (r .number) (r .place)) × (after ≡ before)
 
-abbrev pub kindOf : Table → ℕ
-kindOf t = kindIn (t .entries)
+-- ---- demand 3
 
--- "Each P line holds at every budget; each S line at every budget not below its placements."; "On a pair card placements are 0"
-abbrev pub Holds : List Table → Type 0
-Holds ts = (t : Table) → In t ts → (budget : ℕ) → t .placements ≤ budget
-    → Means (kindOf t) 2 (storedIn t) budget (settled (t .verdict) (t .placements))
+abbrev pub HasBuild : BuildAnswer → Type 0
+HasBuild r = (n : ℕ) × (k : ℕ) × ((r ≡ Sole n k) ⊎ (r ≡ Several n k))
 
--- a card that has the entries of a table, l = 2
-pub record OnCard (t : Table) (card : List ℕ) : Type 0 where
-  pub kind : toldBy card .kind ≡ kindOf t
-  pub letters : toldBy card .l ≡ 2
-  pub entries : slotsOn card ≡ storedIn t
+abbrev pub IsSeveral : BuildAnswer → Type 0
+IsSeveral r = (n : ℕ) × (k : ℕ) × (r ≡ Several n k)
+
+-- neither unsettled nor refused
+abbrev pub Settles : BuildAnswer → Type 0
+Settles r = HasBuild r ⊎ ((k : ℕ) × (r ≡ None k))
+
+-- the letters that an answer gives stand at the start of the output
+abbrev pub sequenceIn : BuildAnswer → List ℕ → List ℕ
+sequenceIn (Sole n k) after = take n after
+sequenceIn (Several n k) after = take n after
+sequenceIn (None k) after = []
+sequenceIn (Unsettled k) after = []
+sequenceIn (Refused r) after = []
 
 -- "Take two admitted cards of one kind and word length whose entries pair off with equal words, every place allowed on the first being
 -- allowed on the second"

@@ -5,7 +5,8 @@ use mathlib.Core.List.{List, _++_, append-assoc}
 use Prim.Native.Nat.{ℕ, _+_, _*_, _≤_}
 use native.Mathlib.Omega.{arith}
 use lib.ListN.{length, getD, drop, length-append}
-use Rattle.block.specs.Bytes.{twoAt, fourAt, twoBytes, fourBytes, putAt, AreBytes}
+use Rattle.block.specs.Bytes.{twoAt, fourAt, twoBytes, fourBytes, AreBytes}
+use Rattle.block.specs.Putting.{putAt}
 use Rattle.block.proofs.PutLaws.{length-two, length-four, two-read, four-read, two-again, four-again, put-on}
 use Rattle.entries.specs.declared.Slot.{Slot}
 use Rattle.entries.specs.Slot.{entryBytes, slotAt, slotBytes, slotFrom}

@@ -3,7 +3,7 @@ ghost use mathlib.Core.Path.{_≡_};
 ghost use Prim.Native.Nat.{_+_, _*_, _^_, _≤_};
 ghost use lib.ListN.{length};
 ghost use Rattle.answers.specs.Answer.{first, sound, saysHeld};
-ghost use Rattle.block.specs.Bytes.{putAt};
+ghost use Rattle.block.specs.Putting.{putAt};
 ghost use Rattle.entries.specs.Slot.{entryBytes, slotAt, slotBytes};
 ghost use Rattle.entries.specs.Fault.{isPlace, pairHolds, spanHolds, placesHold, entryTests, mostLength};
 ghost use Rattle.entries.specs.Entry.{placesOf, entryOf};

@@ -14,7 +14,8 @@ use lib.Dec.{eqb, leb}
 use borrow.Author.Tests.{eqb-true, eqb-false, eq-eqb, ne-eqb, leb-true, leb-false}
 use Rattle.answers.proofs.Tests.{both}
 use Rattle.entries.specs.declared.Slot.{Slot}
-use Rattle.sequence.specs.Lists.{In, first, later, Rising, keep, numbers}
+use Rattle.sequence.specs.Lists.{In, first, later, Rising, keep}
+use Rattle.sequence.specs.Numbers.{numbers}
 use Rattle.sequence.proofs.ListLaws.{in-keep, keep-in}
 use Rattle.sequence.proofs.TestLaws.{is-true}
 use Rattle.sequence.proofs.FillingLaws.{same-or-not}

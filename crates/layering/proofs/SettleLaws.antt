@@ -14,13 +14,16 @@ use lib.Dec.{leb, le→leb}
 use Rattle.answers.proofs.RowLaws.{length-row}
 use Rattle.entries.specs.declared.Slot.{Slot}
 use Rattle.entries.specs.Slot.{slotFrom, entriesIn}
-use Rattle.sequence.specs.Lists.{In, first, keep, numbers}
-use Rattle.sequence.specs.Build.{spell, Build, Worded}
+use Rattle.sequence.specs.Lists.{In, first, keep}
+use Rattle.sequence.specs.Numbers.{numbers}
+use Rattle.sequence.specs.Build.{spell, Build}
+use Rattle.sequence.specs.Worded.{Worded}
 use Rattle.sequence.specs.Verdict.{several, Tells}
 use Rattle.sequence.proofs.TestLaws.{both-and}
 use Rattle.sequence.proofs.FillingLaws.{same-or-not}
 use Rattle.sequence.proofs.ListLaws.{keep-in, rising-shorter}
-use Rattle.spans.specs.Settling.{spanEntries, verdictOn}
+use Rattle.spans.specs.Settling.{spanEntries}
+use Rattle.spans.specs.Run.{verdictOn}
 use Rattle.spans.proofs.Builds.{builds-sound, complete-worded}
 use Rattle.spans.proofs.Indices.{in-numbers}
 use Rattle.layers.specs.Narrow.{isOver, Narrow, crowd, mostOver}

@@ -9,11 +9,13 @@ use lib.ListN.{length}
 use lib.Dec.{eqb}
 use borrow.Author.Tests.{eqb-true, eqb-false, eq-eqb, ne-eqb}
 use Rattle.entries.specs.declared.Slot.{Slot}
-use Rattle.sequence.specs.Lists.{Choice, In, Rising, keep, numbers}
+use Rattle.sequence.specs.Lists.{Choice, In, Rising, keep}
+use Rattle.sequence.specs.Numbers.{numbers}
 use Rattle.sequence.specs.Build.{Build}
 use Rattle.sequence.specs.Verdict.{Tells, settled}
 use Rattle.spans.specs.Walk.{wordOf, isCandidate, tried, walk, builds, placements}
-use Rattle.spans.specs.Settling.{Entered, spanEntries, verdictOn, Means, settles}
+use Rattle.spans.specs.Settling.{Entered, spanEntries, Means, settles}
+use Rattle.spans.specs.Run.{verdictOn}
 use Rattle.spans.proofs.Feasible.{Allowed}
 use Rattle.spans.proofs.Order.{Sooner, firsts}
 use Rattle.spans.proofs.WalkLaws.{walk-end, walk-more, walked-is, builds-is}

@@ -9,7 +9,8 @@ use lib.ListN.{length, getD, take, drop, set}
 use lib.Seq.{take-at, drop-at}
 use Rattle.answers.specs.Row.{inTurn}
 use Rattle.answers.proofs.RowLaws.{length-turns, turns-none, turns-first, turns-more, turns-at, turns-same}
-use Rattle.block.specs.Bytes.{twoBytes, putAt}
+use Rattle.block.specs.Bytes.{twoBytes}
+use Rattle.block.specs.Putting.{putAt}
 use Rattle.block.specs.Block.{blockBytes, blockAt, indexAt}
 use Rattle.block.specs.Sealing.{sealed}
 use Rattle.block.proofs.Laws.{block-in-place}

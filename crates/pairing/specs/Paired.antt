@@ -15,7 +15,8 @@ use lib.ListN.{length, getD}
 use lib.Dec.{eqb}
 use Rattle.entries.specs.declared.Slot.{Slot}
 use Rattle.entries.specs.Fault.{mostLength, noPlace, pairHolds}
-use Rattle.sequence.specs.Build.{spell, Build, Worded}
+use Rattle.sequence.specs.Build.{spell, Build}
+use Rattle.sequence.specs.Worded.{Worded}
 use Rattle.sequence.specs.Verdict.{Tells}
 use Rattle.sequence.specs.Many.{Many, Power, two-to, no-build, howMany}
 use Rattle.pairs.specs.Described.{verdictBy}

@@ -6,7 +6,8 @@ use Prim.Native.Nat.{ℕ}
 use Rattle.entries.specs.declared.Slot.{Slot}
 use Rattle.sequence.specs.Lists.{Paired}
 use Rattle.sequence.specs.Build.{Build}
-use Rattle.sequence.specs.Verdict.{Verdict, Outcome, settled, Widens, NoLater}
+use Rattle.sequence.specs.Verdict.{Verdict, Outcome, settled, Widens}
+use Rattle.sequence.specs.Compared.{NoLater}
 use Rattle.sequence.proofs.VerdictLaws.{tells-one}
 use Rattle.sequence.proofs.WiderLaws.{verdict-wider}
 use Rattle.pairs.specs.Settling.{pairEntries, Means, settles}

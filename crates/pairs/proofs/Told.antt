@@ -9,7 +9,8 @@ use lib.Seq.{ext-getD}
 use Rattle.entries.specs.declared.Entry.{Entry}
 use Rattle.sequence.specs.Lists.{In}
 use Rattle.sequence.specs.Arrangement.{Arrangement, words}
-use Rattle.sequence.specs.Build.{spell, Build, Worded}
+use Rattle.sequence.specs.Build.{spell, Build}
+use Rattle.sequence.specs.Worded.{Worded}
 use Rattle.sequence.specs.Verdict.{Before, noBuild, Tells}
 use Rattle.sequence.specs.Many.{Many}
 use Rattle.sequence.proofs.OrderLaws.{first-differs}

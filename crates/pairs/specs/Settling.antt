@@ -1,28 +1,18 @@
 -- What is answered on a pair card, and what it means (demands 2 and 3).
 --   pairEntries es           == the entries of a pair card, with their allowed places
---   Entered l es             == entries that the entry rules admit: there is one, each word has l letters, and each has one place or two
 --   Means l es o             == the outcome o is true, over all builds
 -- Assumes nothing.
-use mathlib.Core.Path.{_≡_}
-use mathlib.Core.Bool.{true}
 use mathlib.Core.List.{List, map}
-use Prim.Native.Nat.{ℕ, _^_, _<_}
-use lib.ListN.{length}
+use Prim.Native.Nat.{ℕ}
 use Rattle.entries.specs.declared.Slot.{Slot}
 use Rattle.entries.specs.declared.Entry.{Entry}
-use Rattle.entries.specs.Fault.{pair, pairHolds}
+use Rattle.entries.specs.Fault.{pair}
 use Rattle.entries.specs.Entry.{entryOf}
-use Rattle.sequence.specs.Lists.{In}
 use Rattle.sequence.specs.Build.{Build}
 use Rattle.sequence.specs.Verdict.{Verdict, Tells, Outcome, settled}
 
 abbrev pub pairEntries : List Slot → List Entry
 pairEntries es = map (entryOf pair) es
-
-pub record Entered (l : ℕ) (es : List Slot) : Type 0 where
-  pub some-entry : 0 < length es
-  pub fits : (e : Slot) → In e es → e .word < 4 ^ l
-  pub holds : (e : Slot) → In e es → pairHolds (length es) (e .one) (e .two) ≡ true
 
 -- "Sole means exactly one sequence fits, several means two or more and gives the alphabetically first, none means none." "On a pair card
 -- placements are 0 and Unsettled never occurs, even at budget 0."

@@ -38,22 +38,12 @@ use Rattle.counting.specs.declared.Number.the-variants as number
 use Rattle.counting.specs.Counting.{tells, refuses, OfCard, OfLists, numberOf, Counts}
 use Rattle.counting.proofs.CountingLaws.{tests-hold, hold-tests, span-refused, counted-one}
 use Rattle.counting.proofs.CardLaws.{other-tests}
-use Rattle.counting.proofs.count_card.Statement as count-card
-use Rattle.counting.proofs.count_card.Met as count-card-met
-use Rattle.counting.proofs.count_lists.Statement as count-lists
-use Rattle.counting.proofs.count_lists.Met as count-lists-met
-use Rattle.demands.specs.Demanded.{Fits, Settles, kindOf, OnCard}
+use Rattle.demands.specs.Demanded.{Fits, Settles}
+use Rattle.demands.specs.Tables.{kindOf, OnCard}
 use Rattle.demands.proofs.MeaningLaws.{settles-given, means-tells, says-holds, says-means, made-slots}
-use Rattle.requests.specs.Counted.{NumberMeans, GoesWith, CountedTable, countedTables}
+use Rattle.requests.specs.Counted.{NumberMeans, GoesWith}
+use Rattle.requests.specs.Tables.{CountedTable, countedTables}
 use Rattle.requests.proofs.Examples.{all-counted, all-stored, all-pairs}
-
--- ---- each call ends, with an answer that meets its contract
-
-pub count-ends : {M : Type 1} → count-card.statement M
-count-ends = count-card-met.met
-
-pub count-lists-end : {M : Type 1} → count-lists.statement M
-count-lists-end = count-lists-met.met
 
 -- ---- what the number means, both ways
 

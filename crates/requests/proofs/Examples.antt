@@ -23,11 +23,9 @@ use Rattle.spans.specs.Settling.{spanEntries}
 use Rattle.pairs.specs.Settling.{pairEntries}
 use Rattle.layers.specs.Narrow.{crowd, mostOver}
 use Rattle.narrow.specs.Settling.{widthTests}
-use Rattle.demands.specs.Demanded.{kindOf}
+use Rattle.demands.specs.Tables.{kindOf}
 use Rattle.demands.proofs.Examples.{wordsOf, onesOf, twosOf, tested}
-use Rattle.requests.specs.Neighbours.{nearTable}
-use Rattle.requests.specs.Counted.{p1Twice, countedTables}
-use Rattle.requests.specs.Settled.{crowdedTable, wideTable, sevenTable}
+use Rattle.requests.specs.Tables.{p1Twice, countedTables, nearTable, crowdedTable, wideTable, sevenTable}
 
 abbrev pub further : List Table
 further = nearTable ∷ p1Twice ∷ []

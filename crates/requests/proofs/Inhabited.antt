@@ -30,10 +30,11 @@ use Rattle.builds.specs.Building.{lettersIn, buildTests, slotsOn}
 use Rattle.builds.proofs.CardLaws.{order-held}
 use Rattle.narrow.proofs.TestLaws.{widths-narrow}
 use Rattle.sequence.specs.Verdict.{Tells}
-use Rattle.demands.specs.Demanded.{Fits, kindOf, OnCard}
-use Rattle.requests.specs.Neighbours.{Near, AllNear, nearTable}
-use Rattle.requests.specs.Counted.{p1Twice}
-use Rattle.requests.specs.Settled.{OnNarrowCard, FirstWide, crowdedTable, wideTable, sevenTable}
+use Rattle.demands.specs.Demanded.{Fits}
+use Rattle.demands.specs.Tables.{kindOf, OnCard}
+use Rattle.requests.specs.Neighbours.{Near, AllNear}
+use Rattle.requests.specs.Settled.{OnNarrowCard, FirstWide}
+use Rattle.requests.specs.Tables.{p1Twice, nearTable, crowdedTable, wideTable, sevenTable}
 use Rattle.demands.proofs.Inhabited.{cards-of, table-card}
 use Rattle.requests.proofs.Examples.{all-spans, further, further-decided, further-hold, further-stored}
 use Rattle.requests.proofs.Examples.{spanned, spanned-hold, spanned-stored, spanned-as-spans, spanned-walks, rest-decided}

@@ -17,7 +17,7 @@ use Rattle.card.proofs.SoundLaws.{reads-holds}
 use Rattle.lists.specs.Lists.{listsTests}
 use Rattle.lists.proofs.Laws.{lists-accepted, accepted-lists}
 use Rattle.lists.proofs.AdmittedLaws.{its-reads, its-told}
-use Rattle.sequence.specs.Verdict.{Verdict, sole, several, noBuild, Outcome, settled, unsettled}
+use Rattle.sequence.specs.Verdict.{Verdict, Outcome, settled, unsettled}
 use Rattle.sequence.proofs.VerdictLaws.{tells-one, tells-same}
 use Rattle.sequence.proofs.WiderLaws.{build-wider}
 use Rattle.spans.specs.Walk.{placements}
@@ -26,7 +26,7 @@ use Rattle.builds.specs.Building.{lettersIn, buildTests, slotsOn, Means, answer
 use Rattle.builds.proofs.CardLaws.{has-room}
 use Rattle.demands.specs.Demanded.{Fits, Settles}
 use Rattle.requests.specs.Neighbours.{AllNear, Spanned, SameSaid, spanFormat, spanCard, spanTwos}
-use Rattle.demands.proofs.MeaningLaws.{settles-given, means-tells, means-placements, means-unsettled, says-means}
+use Rattle.demands.proofs.MeaningLaws.{settles-given, verdict-settles, means-tells, means-placements, means-unsettled, says-means}
 use Rattle.demands.proofs.CompareLaws.{holds-given}
 use Rattle.requests.proofs.NeighbourLaws.{spans-wider, pairs-wider, near-accepted, span-card-told, span-card-spanned, span-card-reads}
 
@@ -48,9 +48,7 @@ module _ {card before after : List ℕ} {b : ℕ} {r : BuildAnswer}
       let o = holds-given (p .says) hold in rw (p .answer, o .1) (go (o .0) (says-means (rw (o .1) at (p .says))))
     where
       go : (o : Outcome) → Means (toldBy card .kind) (toldBy card .l) (slotsOn card) b o → Settles (answerOf (given o))
-      go (settled (sole s) n) m = tt
-      go (settled (several s) n) m = tt
-      go (settled noBuild n) m = tt
+      go (settled v n) m = verdict-settles v n
       go (unsettled n) m = absurd (never n m)
 
   -- a pair card does

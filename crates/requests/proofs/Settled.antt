@@ -32,25 +32,14 @@ use Rattle.narrow.specs.Settling as narrow
 use Rattle.narrow.proofs.TestLaws.{widths-narrow}
 use Rattle.narrow.proofs.SettlingLaws.{settles-one}
 use Rattle.narrow.proofs.NoBudget.{settles-unbudgeted}
-use Rattle.narrow.proofs.settle_card.Statement as settle-card
-use Rattle.narrow.proofs.settle_card.Met as settle-card-met
-use Rattle.narrow.proofs.settle_lists.Statement as settle-lists
-use Rattle.narrow.proofs.settle_lists.Met as settle-lists-met
-use Rattle.demands.specs.Demanded.{Fits, Letters, kindOf, OnCard}
+use Rattle.demands.specs.Demanded.{Fits, Letters}
+use Rattle.demands.specs.Tables.{kindOf, OnCard}
 use Rattle.demands.specs.Demanded as demands
-use Rattle.demands.proofs.MeaningLaws.{said-sole, said-several, said-none, said-refused, settles-given, means-tells, says-means}
+use Rattle.demands.proofs.MeaningLaws.{said-sole, said-several, said-none, said-refused, settles-given, verdict-settles, means-tells, says-means}
 use Rattle.requests.specs.Neighbours.{SameSaid}
 use Rattle.requests.specs.Settled.{SettlesCard, OnNarrowCard, FirstWide}
 use Rattle.requests.proofs.Examples.{all-narrow, all-spans}
-use Rattle.requests.proofs.SettledLaws.{as-spans, verdict-settles, narrow-hold, said-narrow, said-tells, tells-said, said-refusal, narrow-given, settled-by, refused-by, reader-refused, no-room-refused, pair-refused, first-wide-refused, refused-first-wide, made-settles, on-table}
-
--- ---- each call ends, with an answer that meets its contract
-
-pub settle-ends : {M : Type 1} → settle-card.statement M
-settle-ends = settle-card-met.met
-
-pub settle-lists-end : {M : Type 1} → settle-lists.statement M
-settle-lists-end = settle-lists-met.met
+use Rattle.requests.proofs.SettledLaws.{as-spans, narrow-hold, said-narrow, said-tells, tells-said, said-refusal, narrow-given, settled-by, refused-by, reader-refused, no-room-refused, pair-refused, first-wide-refused, refused-first-wide, made-settles, on-table}
 
 -- ---- what each answer means: "It answers Sole, Several or None with no budget, each meaning what demand 2 says of it whether or not build
 -- would settle, and its placements are 0."
@@ -116,7 +105,7 @@ module _ (card : List ℕ) {before after : List ℕ} {r : BuildAnswer} (p : Sett
     pub settled-always : demands.Settles r
     settled-always =
         let a = narrow-given card (length before) on (p .says) in
-        rw (p .answer, a .1) (verdict-settles (a .0))
+        rw (p .answer, a .1) (verdict-settles (a .0) 0)
 
     -- where exactly one sequence fits, Sole with it; where two or more fit, Several with the alphabetically first; where none fits, None
     pub settled-when : (v : Verdict) → Tells (Fits card) v

@@ -22,7 +22,7 @@ use Rattle.lists.proofs.Laws.{lists-accepted}
 use Rattle.writer.proofs.ReadBackLaws.{accepted-order}
 use Rattle.sequence.specs.Build.{Build}
 use Rattle.sequence.specs.Tables.{Table, storedIn}
-use Rattle.sequence.specs.Verdict.{Verdict, sole, several, noBuild, Tells, Outcome, settled}
+use Rattle.sequence.specs.Verdict.{Verdict, Tells, Outcome, settled}
 use Rattle.spans.specs.Settling.{spanEntries}
 use Rattle.layers.specs.Narrow.{Narrow}
 use Rattle.layers.specs.Settling.{settles}
@@ -36,7 +36,8 @@ use Rattle.narrow.proofs.TestLaws.{narrow-widths, wide-refused, refused-wide}
 use Rattle.narrow.proofs.TestLaws.{spanTests, span-go-on, span-wrong, span-hold, span-refused-wide}
 use Rattle.narrow.proofs.TestLaws.{tests-refuse, tests-go-on, tests-hold, refusals, build-as-card}
 use Rattle.narrow.proofs.SettlingLaws.{other-tests, settled-one}
-use Rattle.demands.specs.Demanded.{Fits, Settles, kindOf, OnCard}
+use Rattle.demands.specs.Demanded.{Fits, Settles}
+use Rattle.demands.specs.Tables.{kindOf, OnCard}
 use Rattle.demands.proofs.MeaningLaws.{made-slots}
 use Rattle.requests.specs.Settled.{SettlesCard, OnNarrowCard, FirstWide}
 use Rattle.requests.proofs.NumberLaws.{building-below}
@@ -134,11 +135,6 @@ module _ (card : List ℕ) (room : ℕ) where
 pub said-refusal : {ts : List Test} {kind l : ℕ} {es : List Slot} {n p : ℕ} → narrow.Settled ts kind l es (refused n p)
     → first (settleTests kind es ts) sound ≡ refused n p
 said-refusal (refuses e) = e
-
-pub verdict-settles : (v : Verdict) → Settles (answerOf (given (settled v 0)))
-verdict-settles (sole s) = tt
-verdict-settles (several s) = tt
-verdict-settles noBuild = tt
 
 -- the answer and the output, by what is said
 module _ (card : List ℕ) {before after : List ℕ} {r : BuildAnswer} (p : SettlesCard card before r after) where

@@ -10,25 +10,22 @@
 --   spanFormat f             == the format of the span card that a pair card of the format f becomes
 --   spanCard card            == the bytes of that card
 --   spanTwos words ones twos == the places two of its entries, from the lists of the pair card; words and places one stay
---   nearTable                == such a pair card, as a table
 -- Assumes nothing.
 use mathlib.Core.Path.{_≡_}
 use mathlib.Core.Logic.{_⊎_}
 use mathlib.Core.Bool.{cond}
-use mathlib.Core.List.{List, [], _∷_, map}
+use mathlib.Core.List.{List, map}
 use Prim.Native.Nat.{ℕ, _+_}
 use lib.Dec.{eqb}
 use Rattle.answers.specs.Answer.{given}
 use Rattle.entries.specs.declared.Format.{Format}
-use Rattle.entries.specs.declared.Places.the-variants.{One, Two}
 use Rattle.entries.specs.declared.Slot.{Slot}
 use Rattle.entries.specs.Fault.{pair, span, noPlace}
 use Rattle.entries.specs.Slot.{entriesIn}
 use Rattle.layout.specs.Layout.{toldBy, slotOf}
 use Rattle.layout.specs.Card.{cardOf}
 use Rattle.sequence.specs.Lists.{In}
-use Rattle.sequence.specs.Verdict.{Verdict, sole, settled}
-use Rattle.sequence.specs.Tables.{Table, A, C, G, entry}
+use Rattle.sequence.specs.Verdict.{Verdict, settled}
 use Rattle.builds.specs.declared.BuildAnswer.{BuildAnswer}
 use Rattle.builds.specs.Building.{slotsOn, answerOf, lettersAfter}
 
@@ -74,12 +71,3 @@ spanCard card = cardOf (spanFormat (toldBy card)) (λ e. spanOf (slotOf card e))
 
 abbrev pub spanTwos : List ℕ → List ℕ → List ℕ → List ℕ
 spanTwos words ones twos = map (λ s. spanOf s .two) (entriesIn words ones twos)
-
--- l = 2: AC at 0, CA and AG at 1 or 2
-abbrev pub nearTable : Table
-nearTable =
-    record {
-      entries = entry A C (One 0) ∷ entry C A (Two 1 2) ∷ entry A G (Two 1 2) ∷ [];
-      verdict = sole (A ∷ C ∷ A ∷ G ∷ []);
-      placements = 0;
-    }

@@ -11,7 +11,8 @@ use Rattle.entries.specs.Entry.{entryOf}
 use Rattle.entries.proofs.Allowed.{entry-word}
 use Rattle.sequence.specs.Lists.{In}
 use Rattle.sequence.specs.Arrangement.{Arrangement, words}
-use Rattle.sequence.specs.Build.{lettersOf, spell, Build, Worded}
+use Rattle.sequence.specs.Build.{lettersOf, spell, Build}
+use Rattle.sequence.specs.Worded.{Worded}
 use Rattle.sequence.proofs.ListLaws.{in-map}
 use Rattle.sequence.proofs.ReorderedLaws.{reordered-length, reordered-in}
 use Rattle.sequence.proofs.SpellingLaws.{Chained, standing-chain, spell-one, spell-length, spell-window}

@@ -4,7 +4,8 @@ use mathlib.Core.Path.{_≡_, sym, _∙_, ap}
 use mathlib.Core.Logic.{_⊎_, inl, inr, ⊎-map}
 use mathlib.Core.List.{List}
 use Prim.Native.Nat.{ℕ}
-use Rattle.sequence.specs.Verdict.{Before, Verdict, sole, several, noBuild, Tells, NoLater}
+use Rattle.sequence.specs.Verdict.{Before, Verdict, sole, several, noBuild, Tells}
+use Rattle.sequence.specs.Compared.{NoLater}
 use Rattle.sequence.proofs.OrderLaws.{before-asym}
 
 -- two verdicts that are both true are one

@@ -12,7 +12,8 @@ use Rattle.entries.specs.Entry.{allows}
 use Rattle.sequence.specs.Lists.{Reordered, empty, next, Paired, nobody, pair}
 use Rattle.sequence.specs.Arrangement.{follows, Standing, stands, words}
 use Rattle.sequence.specs.Build.{spell, Build}
-use Rattle.sequence.specs.Verdict.{Verdict, Tells, NoLater, Widens}
+use Rattle.sequence.specs.Verdict.{Verdict, Tells, Widens}
+use Rattle.sequence.specs.Compared.{NoLater}
 use Rattle.sequence.proofs.ListLaws.{length-taken, paired-take}
 use Rattle.sequence.proofs.VerdictLaws.{tells-no-later}
 

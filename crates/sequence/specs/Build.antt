@@ -2,7 +2,6 @@
 --   lettersOf l w       == the l letters of the word w, "first letter most significant"
 --   spell l ws          == the letters of the words ws, each of which overlaps the one before it
 --   Build l es s        == the sequence s is a build of the entries es
---   Worded l es ws      == ws are the words of an arrangement of the entries es, in the order of their places
 -- Assumes nothing.
 use mathlib.Core.Path.{_≡_}
 use mathlib.Core.List.{List, [], _∷_, _++_, map}
@@ -24,9 +23,3 @@ pub record Build (l : ℕ) (es : List Entry) (s : List ℕ) : Type 0 where
   pub order : List Entry
   pub arrangement : Arrangement l es order
   pub spelled : s ≡ spell l (words order)
-
--- an arrangement, by its words
-pub record Worded (l : ℕ) (es : List Entry) (ws : List ℕ) : Type 0 where
-  pub order : List Entry
-  pub arrangement : Arrangement l es order
-  pub in-order : ws ≡ words order

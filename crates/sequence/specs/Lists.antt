@@ -6,11 +6,9 @@
 --   Paired R xs ys         == the members of the two lists pair off, each pair in R
 --   choices xs             == each member with those that are left without it, in the order of the list
 --   keep test xs           == those that pass the test, in their order
---   numbers i n            == the n numbers from i on
 -- Assumes nothing.
 use mathlib.Core.Bool.{Bool, cond}
 use mathlib.Core.List.{List, [], _∷_, map}
-use Prim.Native.Nat.{ℕ, zero, suc}
 
 module _ {A : Type 0} where
   pub data In (x : A) : List A → Type 0 where
@@ -49,7 +47,3 @@ module _ {A : Type 0} where
 pub data Paired {A : Type 0} (R : A → A → Type 0) : List A → List A → Type 0 where
   nobody : Paired R [] []
   pair : {a b : A} {l l′ m m′ : List A} → R a b → Taken a l l′ → Taken b m m′ → Paired R l′ m′ → Paired R l m
-
-abbrev pub numbers : ℕ → ℕ → List ℕ
-numbers i zero = []
-numbers i (suc n) = i ∷ numbers (suc i) n

@@ -4,7 +4,6 @@
 --   Verdict              == sole and several with their sequence, or that there is no build
 --   Tells Fits v         == the verdict v is true
 --   Outcome              == a verdict with the placements up to it, or that it is unsettled after so many
---   NoLater v v′         == what demand 3 says of the verdicts on two cards, the second of which allows more
 --   Widens e e′          == the words are equal, and e′ may stand wherever e may
 -- Assumes nothing.
 use mathlib.Core.Path.{_≡_}
@@ -42,13 +41,3 @@ pub data Outcome : Type 0 where
 pub record Widens (e e′ : Entry) : Type 0 where
   pub word : e .word ≡ e′ .word
   pub places : (i : ℕ) → allows (e .places) i ≡ true → allows (e′ .places) i ≡ true
-
--- "a build on the first means one on the second, alphabetically no later; several stays several"
-abbrev pub NoLater : Verdict → Verdict → Type 0
-NoLater (sole s) (sole t) = t ≡ s
-NoLater (sole s) (several t) = (t ≡ s) ⊎ Before t s
-NoLater (sole s) noBuild = ⊥
-NoLater (several s) (sole t) = ⊥
-NoLater (several s) (several t) = (t ≡ s) ⊎ Before t s
-NoLater (several s) noBuild = ⊥
-NoLater noBuild v = Unit {0}

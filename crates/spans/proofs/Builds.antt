@@ -15,7 +15,8 @@ use Rattle.entries.specs.Fault.{span}
 use Rattle.entries.proofs.Allowed.{span-entry, entry-word}
 use Rattle.sequence.specs.Lists.{In, Reordered, empty, next, Rising}
 use Rattle.sequence.specs.Arrangement.{Standing, nobody, stands, words}
-use Rattle.sequence.specs.Build.{spell, Build, Worded}
+use Rattle.sequence.specs.Build.{spell, Build}
+use Rattle.sequence.specs.Worded.{Worded}
 use Rattle.sequence.specs.Verdict.{Before}
 use Rattle.sequence.proofs.TestLaws.{is-true, true-is, and-both, both-and}
 use Rattle.sequence.proofs.ListLaws.{not-in-nil, in-cons, in-keep, keep-in, rising-keep, length-taken}

@@ -14,14 +14,16 @@ use Rattle.entries.specs.Entry.{entryOf}
 use Rattle.entries.proofs.Allowed.{entry-word}
 use Rattle.sequence.specs.Lists.{In, first, later, Paired, Rising, rises, keep}
 use Rattle.sequence.specs.Build.{spell, Build}
-use Rattle.sequence.specs.Verdict.{Before, Widens, Verdict, Tells, NoLater, Outcome, sole, several, noBuild, settled}
+use Rattle.sequence.specs.Verdict.{Before, Widens, Verdict, Tells, Outcome, sole, several, noBuild, settled}
+use Rattle.sequence.specs.Compared.{NoLater}
 use Rattle.sequence.proofs.ListLaws.{in-keep, keep-in, rising-shorter}
 use Rattle.sequence.proofs.ReorderedLaws.{map-paired, paired-each}
 use Rattle.sequence.proofs.OrderLaws.{before-irr}
 use Rattle.sequence.proofs.VerdictLaws.{tells-no-later}
 use Rattle.sequence.proofs.WiderLaws.{build-wider, paired-length}
 use Rattle.spans.specs.Walk.{walked, builds, upTo, placements}
-use Rattle.spans.specs.Settling.{spanEntries, Entered, Means, settles, goes-on, NoLaterIf, Narrowed}
+use Rattle.spans.specs.Settling.{spanEntries, Entered, Means, settles, goes-on}
+use Rattle.spans.specs.Compared.{NoLaterIf, Narrowed}
 use Rattle.spans.proofs.Feasible.{Wider, feasible-wider}
 use Rattle.spans.proofs.Builds.{allowed-is, is-allowed, Complete, complete-build, builds-sound}
 use Rattle.spans.proofs.Builds.{walked-feasible, feasible-walked, walked-some, walked-rising, builds-rising}

@@ -11,7 +11,8 @@ use mathlib.Core.Logic.{⊎-elim}
 use lib.Dec.{T, eqb, leb, ltb}
 use borrow.Author.Tests.{eq-eqb, ne-eqb}
 use Rattle.sequence.proofs.TestLaws.{and-both, both-and}
-use Rattle.sequence.specs.Lists.{Choice, choice, choices, In, first, later, Rising, flat, rises, keep, numbers}
+use Rattle.sequence.specs.Lists.{Choice, choice, choices, In, first, later, Rising, flat, rises, keep}
+use Rattle.sequence.specs.Numbers.{numbers}
 use Rattle.entries.specs.declared.Slot.{Slot}
 use Rattle.spans.proofs.Feasible.{Allowed}
 use Rattle.spans.specs.Walk.{wordOf, endOf, isCandidate, insert, byWord, tried, walk}

@@ -10,7 +10,7 @@
 -- `Order`, `Indices`: the same walk over indices, marks and a sorted list for each place.
 -- `Runs`: a run under a budget comes to what the definition says.
 -- `Tables`: S1 to S5, from the definitions through one statement over the list.
--- `Promises`: what is promised of span cards, for a reader.
+-- `Promises`: what is promised of the walk, for a reader.
 pub mod Feasible
 pub mod Tried
 pub mod WalkLaws

@@ -15,7 +15,8 @@ use Rattle.sequence.proofs.ListLaws.{not-in-nil, in-cons}
 use Rattle.sequence.proofs.OrderLaws.{before-irr}
 use Rattle.sequence.proofs.VerdictLaws.{tells-one}
 use Rattle.spans.specs.Walk.{builds, placements}
-use Rattle.spans.specs.Settling.{Entered, spanEntries, verdictOn, outcome, Means, settles, goes-on}
+use Rattle.spans.specs.Settling.{Entered, spanEntries, Means, settles, goes-on}
+use Rattle.spans.specs.Run.{verdictOn, outcome}
 use Rattle.spans.proofs.Builds.{Complete, build-complete, complete-build, builds-sound, builds-complete, builds-rising}
 use Rattle.spans.proofs.Chains.{complete-before}
 

@@ -8,17 +8,18 @@ use native.Mathlib.Omega.{arith}
 use lib.ListN.{length}
 use lib.Dec.{eqb, leb}
 use borrow.Author.Tests.{leb-true, leb-false, le-leb, lt-leb, eqb-true}
-use Rattle.sequence.specs.Lists.{In, first, later, Rising, keep, numbers}
+use Rattle.sequence.specs.Lists.{In, first, later, Rising, keep}
+use Rattle.sequence.specs.Numbers.{numbers}
 use Rattle.entries.specs.declared.Slot.{Slot}
 use Rattle.spans.specs.Walk.{isCandidate, walk, walked, builds, upTo, placements}
-use Rattle.sequence.specs.Build.{Worded}
+use Rattle.sequence.specs.Worded.{Worded}
 use Rattle.sequence.specs.Verdict.{Outcome, settled, unsettled}
-use Rattle.spans.specs.Settling.{spanEntries, verdictOn, outcome}
+use Rattle.spans.specs.Settling.{spanEntries}
 use Rattle.spans.proofs.Feasible.{Allowed}
 use Rattle.spans.proofs.Builds.{walked-feasible, complete-worded}
 use Rattle.spans.proofs.Order.{Sooner, firsts}
 use Rattle.spans.proofs.Indices.{choiceIn, walk-table}
-use Rattle.spans.specs.Run.{Run, searching, one, two, spent, reach, run, comeTo}
+use Rattle.spans.specs.Run.{Run, searching, one, two, spent, reach, run, comeTo, verdictOn, outcome}
 
 -- ---- a run, one placement after the other
 

@@ -4,14 +4,18 @@
 --   reach m budget r ws       == the run r when the words ws are reached, on a card of m entries
 --   run m budget r reached    == the run r over all of `reached`, in order
 --   comeTo l budget r         == what it comes to
+--   verdictOn l bs            == the verdict by the builds bs in their order
+--   outcome l es budget       == what the walk comes to
 -- Assumes nothing.
 use mathlib.Core.Bool.{cond}
 use mathlib.Core.List.{List, [], _∷_}
 use Prim.Native.Nat.{ℕ, suc}
 use lib.Dec.{eqb, leb}
 use lib.ListN.{length}
+use Rattle.entries.specs.declared.Slot.{Slot}
 use Rattle.sequence.specs.Build.{spell}
-use Rattle.sequence.specs.Verdict.{sole, several, noBuild, Outcome, settled, unsettled}
+use Rattle.sequence.specs.Verdict.{Verdict, sole, several, noBuild, Outcome, settled, unsettled}
+use Rattle.spans.specs.Walk.{builds, placements}
 
 -- no build yet, one build, or two, the first of which is kept, each with the placements made; or the budget is spent
 pub data Run : Type 0 where
@@ -36,3 +40,14 @@ comeTo l budget (searching n) = settled noBuild n
 comeTo l budget (one ws n) = settled (sole (spell l ws)) n
 comeTo l budget (two ws n) = settled (several (spell l ws)) n
 comeTo l budget spent = unsettled budget
+
+-- ---- the same at once, by the builds that the walk completes
+
+abbrev pub verdictOn : ℕ → List (List ℕ) → Verdict
+verdictOn l [] = noBuild
+verdictOn l (ws ∷ []) = sole (spell l ws)
+verdictOn l (ws ∷ vs ∷ more) = several (spell l ws)
+
+-- "It settles exactly if its placements up to the verdict are at most the budget"; "Unsettled gives placements equal to the budget."
+unfoldable pub outcome : ℕ → List Slot → ℕ → Outcome
+outcome l es budget = cond (leb (placements l es) budget) (settled (verdictOn l (builds l es)) (placements l es)) (unsettled budget)

@@ -7,7 +7,7 @@ use native.Mathlib.Numerals.{add-one}
 use native.Mathlib.Omega.{arith}
 use lib.ListN.{length, getD, take, drop, set, length-append}
 use lib.Seq.{take-suc, take-all, length-take-le, drop-drop, append-snoc, set-at}
-use Rattle.block.specs.Bytes.{putAt}
+use Rattle.block.specs.Putting.{putAt}
 use Rattle.block.proofs.PutLaws.{put-none, put-one, put-length, put-part, put-on, put-next}
 use Rattle.text.specs.Text.{ascii, decimal, others}
 use Rattle.text.specs.Putting.{mostDigits, Put}

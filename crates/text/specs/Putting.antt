@@ -7,7 +7,7 @@ use mathlib.Core.Path.{_≡_}
 use mathlib.Core.List.{List}
 use Prim.Native.Nat.{ℕ, _+_, _≤_}
 use lib.ListN.{length}
-use Rattle.block.specs.Bytes.{putAt}
+use Rattle.block.specs.Putting.{putAt}
 
 abbrev pub mostDigits : ℕ
 mostDigits = 20

@@ -13,7 +13,8 @@ use borrow.Author.Tests.{eqb-true, eqb-false, eq-eqb, ne-eqb}
 use Rattle.answers.proofs.Tests.{both}
 use Rattle.entries.specs.declared.Slot.{Slot}
 use Rattle.sequence.proofs.TestLaws.{is-true}
-use Rattle.sequence.specs.Lists.{In, first, later, Rising, rises, keep, numbers}
+use Rattle.sequence.specs.Lists.{In, first, later, Rising, rises, keep}
+use Rattle.sequence.specs.Numbers.{numbers}
 use Rattle.sequence.specs.Arrangement.{follows}
 use Rattle.sequence.proofs.ListLaws.{not-in-nil, in-cons, in-keep, keep-in, in-map, map-in, rising-keep}
 use Rattle.sequence.proofs.LetterLaws.{overlap-is, is-overlap}

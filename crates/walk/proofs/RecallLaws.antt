@@ -9,7 +9,8 @@ use Prim.Native.Nat.{ℕ, zero, suc, _+_, _*_, _-_, _≤_, _<_}
 use native.Mathlib.Omega.{arith}
 use lib.ListN.{length, getD, take, replicate, length-map, length-replicate, getD-replicate}
 use lib.Seq.{length-take-le}
-use Rattle.sequence.specs.Lists.{In, numbers}
+use Rattle.sequence.specs.Lists.{In}
+use Rattle.sequence.specs.Numbers.{numbers}
 use Rattle.sequence.proofs.FillingLaws.{lt-or-le}
 use Rattle.spans.specs.Walk.{walk}
 use Rattle.spans.specs.Run.{Run, searching, one}

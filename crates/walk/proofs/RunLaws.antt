@@ -10,7 +10,8 @@ use lib.ListN.{length, set, take, length-append, length-set}
 use lib.Seq.{take-all, take-take, take-at, take-suc-set, getD-set-same, getD-set-other}
 use lib.Dec.{eqb}
 use borrow.Author.Tests.{eqb-true, eqb-false, le-leb, lt-leb}
-use Rattle.sequence.specs.Lists.{In, first, later, keep, numbers}
+use Rattle.sequence.specs.Lists.{In, first, later, keep}
+use Rattle.sequence.specs.Numbers.{numbers}
 use Rattle.spans.specs.Run.{Run, searching, one, two, spent, reach}
 use Rattle.spans.proofs.Runs.{reach-searching, reach-one}
 use Rattle.memory.specs.Tally.{Placed}

@@ -11,7 +11,8 @@ use native.Mathlib.Numerals.{add-one}
 use lib.ListN.{length, getD, set}
 use lib.Dec.{eqb}
 use Rattle.entries.specs.declared.Slot.{Slot}
-use Rattle.sequence.specs.Lists.{Rising, flat, rises, keep, numbers}
+use Rattle.sequence.specs.Lists.{Rising, flat, rises, keep}
+use Rattle.sequence.specs.Numbers.{numbers}
 use Rattle.spans.specs.Walk.{walk}
 use Rattle.spans.specs.Run.{Run, two, spent, reach, run}
 use Rattle.spans.proofs.Order.{firsts}

@@ -14,8 +14,9 @@ use Rattle.answers.proofs.RowLaws.{row-none, row-first, length-row}
 use Rattle.entries.specs.declared.Slot.{Slot}
 use Rattle.entries.specs.Slot.{slotFrom, entriesIn}
 use Rattle.entries.proofs.SlotLaws.{slot-from}
-use Rattle.sequence.specs.Lists.{keep, numbers}
-use Rattle.sequence.specs.Build.{Worded}
+use Rattle.sequence.specs.Lists.{keep}
+use Rattle.sequence.specs.Numbers.{numbers}
+use Rattle.sequence.specs.Worded.{Worded}
 use Rattle.sequence.proofs.ListLaws.{in-row}
 use Rattle.spans.specs.Walk.{walk, walked}
 use Rattle.spans.specs.Settling.{Entered, spanEntries, Means}

@@ -9,7 +9,8 @@ use mathlib.Core.List.{List}
 use Prim.Native.Nat.{ℕ}
 use Rattle.entries.specs.declared.Slot.{Slot}
 use Rattle.entries.specs.declared.Entry.{Entry}
-use Rattle.sequence.specs.Build.{spell, Worded}
+use Rattle.sequence.specs.Build.{spell}
+use Rattle.sequence.specs.Worded.{Worded}
 use Rattle.sequence.specs.Verdict.{sole, several, noBuild, Outcome, settled, unsettled}
 use Rattle.spans.specs.Settling.{spanEntries, Means}
 use Rattle.walk.specs.declared.Walked.{Walked}

@@ -6,7 +6,7 @@ use native.Mathlib.Omega.{arith}
 use lib.ListN.{length, take, drop}
 use lib.Seq.{take-at, drop-at}
 use borrow.Rule.Slice.PartMut.{putMid}
-use Rattle.block.specs.Bytes.{putAt}
+use Rattle.block.specs.Putting.{putAt}
 use Rattle.block.specs.Block.{blockBytes}
 use Rattle.block.specs.Sealing.{sealed}
 use Rattle.block.proofs.PutLaws.{put-none, put-on, put-part, put-start, put-length, put-whole}

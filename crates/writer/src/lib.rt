@@ -3,7 +3,7 @@
 ghost use mathlib.Core.Path.{_≡_};
 ghost use Prim.Native.Nat.{_+_, _*_, _≤_, _<_};
 ghost use lib.ListN.{length};
-ghost use Rattle.block.specs.Bytes.{putAt};
+ghost use Rattle.block.specs.Putting.{putAt};
 ghost use Rattle.block.specs.Block.{blockBytes};
 ghost use Rattle.block.specs.Sealing.{sealed};
 ghost use Rattle.entries.specs.Slot.{entryBytes, slotFrom};

@@ -1,0 +1,71 @@
+-- What an answer means and what is promised of it are one: an answer that meets build's contract means what its case says, and one that
+-- means what its case says meets the contract. Assumes nothing.
+use mathlib.Core.Path.{_≡_, refl, ap, subst}
+use mathlib.Core.Logic.{⊎-elim}
+use mathlib.Core.List.{List, map}
+use Prim.Native.Nat.{ℕ}
+use lib.ListN.{length}
+use Rattle.answers.specs.Answer.{Answer, given, refused}
+use Rattle.entries.specs.Entry.{entryOf}
+use Rattle.entries.specs.Fault.{pair, span}
+use Rattle.layout.specs.Bounds.{mostEntries}
+use Rattle.layout.specs.Layout.{toldBy}
+use Rattle.sequence.specs.Build.{Build}
+use Rattle.sequence.specs.Verdict.{Verdict, sole, several, noBuild, Tells, settled, unsettled, Outcome}
+use Rattle.spans.specs.Settling as spans
+use Rattle.pairs.specs.Settling as pairs
+use Rattle.builds.specs.declared.BuildAnswer.{BuildAnswer}
+use Rattle.builds.specs.declared.BuildAnswer.the-variants.{Sole, Several, None, Unsettled, Refused}
+use Rattle.builds.specs.Building.{slotsOn, on-pairs, on-spans, Says, tells, refuses, answerOf, lettersAfter, Builds}
+use Rattle.demands.specs.Demanded.{Fits, Passes, PlacementsOf, Meant}
+use Rattle.demands.proofs.MeaningLaws.{means-tells, means-placements, means-unsettled, card-kind}
+
+-- ---- what is said is meant
+
+pub said-meant : {card : List ℕ} {budget : ℕ} (before : List ℕ) (a : Answer Outcome) → Says mostEntries card budget (length before) a
+    → Meant card budget before (answerOf a) (lettersAfter a before)
+said-meant before (given (settled (sole s) n)) (tells e m) = (e, means-placements m, (s, means-tells m, (refl, refl)))
+said-meant before (given (settled (several s) n)) (tells e m) = (e, means-placements m, (s, means-tells m, (refl, refl)))
+said-meant before (given (settled noBuild n)) (tells e m) = (e, means-placements m, (means-tells m, refl))
+said-meant before (given (unsettled n)) (tells e m) = (e, (means-unsettled m, refl))
+said-meant before (refused n p) (refuses e) = (e, refl)
+
+-- ---- what is meant is said
+
+-- a verdict over all builds, with the placements that settle the card
+module _ (card : List ℕ) (room : ℕ) (passes : Passes card room) {budget k : ℕ} (placed : PlacementsOf card budget k) where
+  verdict-said : (v : Verdict) → Tells (Fits card) v → Says mostEntries card budget room (given (settled v k))
+  verdict-said v told = ⊎-elim on-pair on-span (card-kind card room passes)
+    where
+      -- over the card's entries as a card of the kind x has them
+      told-by : {x : ℕ} → toldBy card .kind ≡ x → Tells (Build (toldBy card .l) (map (entryOf x) (slotsOn card))) v
+      told-by e = subst (λ x. Tells (Build (toldBy card .l) (map (entryOf x) (slotsOn card))) v) e told
+
+      on-pair : toldBy card .kind ≡ pair → Says mostEntries card budget room (given (settled v k))
+      on-pair e = rw (placed .on-pairs e) (tells passes (on-pairs e (pairs.settles {v = v} (told-by e))))
+
+      on-span : toldBy card .kind ≡ span → Says mostEntries card budget room (given (settled v k))
+      on-span e = let p = placed .on-spans e in tells passes (on-spans e (spans.settles {v = v} (p .0) (p .1) (told-by e)))
+
+pub meant-builds : {card before after : List ℕ} {budget : ℕ} (r : BuildAnswer) → Meant card budget before r after
+    → Builds mostEntries card budget before r after
+meant-builds {card} {before} (Sole n k) (passes, placed, (s, told, (size, out))) =
+    record {
+      said = given (settled (sole s) k);
+      says = verdict-said card (length before) passes placed (sole s) told;
+      answer = ap (λ x. Sole x k) size;
+      output = out;
+    }
+meant-builds {card} {before} (Several n k) (passes, placed, (s, told, (size, out))) =
+    record {
+      said = given (settled (several s) k);
+      says = verdict-said card (length before) passes placed (several s) told;
+      answer = ap (λ x. Several x k) size;
+      output = out;
+    }
+meant-builds {card} {before} (None k) (passes, placed, (told, out)) =
+    record { said = given (settled noBuild k); says = verdict-said card (length before) passes placed noBuild told; answer = refl; output = out }
+meant-builds (Unsettled k) (passes, ((kind, at, over), out)) =
+    record { said = given (unsettled k); says = tells passes (on-spans kind (spans.goes-on at over)); answer = refl; output = out }
+meant-builds (Refused r) (e, out) =
+    record { said = refused (r .number) (r .place); says = refuses e; answer = refl; output = out }
