@@ -1,4 +1,4 @@
--- `ReadingLaws`, `FetchingLaws` and `ListingLaws` have what this crate's proofs cite of the definitions of those names;
+-- `ReadingLaws`, `FetchingLaws` and `ListingLaws` have what proofs cite of the definitions of those names; `SoundLaws` takes the reading order apart,
 -- `RefusalNumbers` says by which numbers the reader refuses, `Determined` that each contract has one outcome, `Steps` that a head lists the
 -- entries, `FrontLaws` that bytes after the longest card change no refusal; `Examples` runs the definitions on the scope's cards and edges.
 pub mod ReadingLaws

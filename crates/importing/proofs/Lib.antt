@@ -1,4 +1,4 @@
--- `ImportingLaws`: what importing answers, that this crate's proofs cite. `WordBack`, `SoundCard`: the card of a sound text, entry by entry.
+-- `ImportingLaws`: what importing answers, for proofs to cite. `WordBack`, `SoundCard`: the card of a sound text, entry by entry.
 -- Of a list that is imported, `Imported`: its kind, l, m and words are the lines'; `NoShift`: no place is shifted. `Refusals`,
 -- `RefusalNumbers`, `Numbers`: what is refused, by which line, and by which numbers. `Determined`: the contract determines the outcome, and
 -- `Ends`: each call meets it.
