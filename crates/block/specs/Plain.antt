@@ -1,5 +1,5 @@
--- The sums of a block before their remainders are taken (request 3: "Work out a and b as plain sums"), for the contracts of inner functions. A
--- reader of the public contracts needs none of it.
+-- The sums of a block before their remainders are taken (request 3: "Work out a and b as plain sums"), for the contracts of inner functions and
+-- the theorems of request 3. A reader of the public contracts needs none of it.
 --   plainStep s x    == the plain sums s with one byte x more
 --   plainOf xs       == the plain sums of the bytes xs
 --   reduced s        == the remainders of the sums s

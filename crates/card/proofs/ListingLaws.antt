@@ -1,4 +1,4 @@
--- The laws of admitting into lent lists that this crate's proofs cite. No contract cites this file. Assumes nothing.
+-- The laws of admitting into lent lists that this crate's proofs and the crates above cite. No contract cites this file. Assumes nothing.
 use mathlib.Core.Path.{_≡_, refl, sym, ap, _∙_}
 use mathlib.Core.Bool.{true, false, _&&_}
 use mathlib.Core.List.{List, [], _∷_, _++_}

@@ -118,8 +118,8 @@ module _ {card before after : List ℕ} {budget : ℕ} where
   pub none-means : {k : ℕ} → Builds mostEntries card budget before (None k) after → ((t : List ℕ) → Fits card t → ⊥) × (after ≡ before)
   none-means b = means b .2
 
-  -- "Unsettled comes only on span cards, exactly when the walk of 01 needs more placements than the budget": then, and (`unsettled-when`) not
-  -- else
+  -- "Unsettled comes only on span cards, exactly when the walk of 01 needs more placements than the budget": only then, and (`unsettled-when`)
+  -- always then
   pub unsettled-means : {k : ℕ} → Builds mostEntries card budget before (Unsettled k) after
       → ((toldBy card .kind ≡ span) × (k ≡ budget) × (budget < placements (toldBy card .l) (slotsOn card))) × (after ≡ before)
   unsettled-means b = means b .1

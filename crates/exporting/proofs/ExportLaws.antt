@@ -1,4 +1,4 @@
--- What exporting answers, and what an admitted card has, that this crate's proofs cite. Assumes nothing.
+-- What exporting answers, and what an admitted card has, that this crate's proofs and the crates above cite. Assumes nothing.
 use mathlib.Core.Path.{_≡_, refl, sym, ap, _∙_}
 use mathlib.Core.Bool.{true}
 use mathlib.Core.List.{List, _++_}

@@ -1,4 +1,4 @@
--- The laws of importing that this crate's proofs cite. Assumes nothing.
+-- The laws of importing that this crate's proofs and the crates above cite. Assumes nothing.
 use mathlib.Core.Path.{_≡_, refl, sym, ap, _∙_}
 use mathlib.Core.Bool.{Bool, true, false, cond}
 use mathlib.Core.List.{List, map}

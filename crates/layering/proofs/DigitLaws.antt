@@ -1,4 +1,4 @@
--- Laws of digits: who is picked by the digits that were told, and what a number is that is taken apart from its end. Assumes nothing.
+-- Laws of digits: those that are tried and lead on are picked by the digits that were told. Assumes nothing.
 use mathlib.Core.Path.{_≡_, refl, sym, ap, _∙_}
 use mathlib.Core.Bool.{Bool, true, false, cond, _&&_, not}
 use mathlib.Core.List.{List, [], _∷_}

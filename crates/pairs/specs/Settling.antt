@@ -1,4 +1,4 @@
--- What is answered on a pair card, and what it means (demands 2 and 3).
+-- What is answered on a pair card, and what it means (demand 2).
 --   pairEntries es           == the entries of a pair card, with their allowed places
 --   Means l es o             == the outcome o is true, over all builds
 -- Assumes nothing.

@@ -1,4 +1,4 @@
--- What is answered on a span card under a budget, and what it means (01, "The walk on span cards", and demands 2 and 3).
+-- What is answered on a span card under a budget, and what it means (01, "The walk on span cards", and demand 2).
 --   spanEntries es           == the entries of a span card, with their allowed places
 --   Entered l es             == entries that the entry rules admit: there is one, each word has l letters, no span ends
 --                               before it begins

@@ -1,4 +1,4 @@
--- The laws of the writer's answers that this crate's proofs cite. No contract cites this file. Assumes nothing.
+-- The laws of the writer's answers that this crate's proofs and the crates above cite. No contract cites this file. Assumes nothing.
 use mathlib.Core.Path.{_≡_, refl, sym, ap, _∙_}
 use mathlib.Core.List.{List, [], _∷_, _++_}
 use Prim.Native.Nat.{ℕ, _≤_, _<_}

@@ -1,4 +1,4 @@
--- `choosing::choose_all` meets its contract. The loop's invariant is `Deciding` of proofs/Built.antt. Assumes nothing.
+-- `choosing::choose_all` meets its contract. The loop's invariant is `Deciding` of proofs/Deciding.antt. Assumes nothing.
 use mathlib.Core.Path.{sym, _∙_}
 use Prim.Native.Nat.{_-_, _≤_}
 use native.Mathlib.Omega.{arith}
