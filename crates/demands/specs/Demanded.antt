@@ -1,6 +1,7 @@
 -- What the demands speak of, over cards and what build answers on them.
 --   Fits card s              == the sequence s is a build of the card
---   Matches l es s           == the same, as the client words it
+--   At i x xs                == x is the member number i of the list, from 0
+--   Matches l es s           == the sequence s is a build, as the client words it
 --   Passes card room         == nothing is refused of the card: it is admitted, and there is room for its sequence
 --   PlacementsOf card budget k
 --                            == an answer that settles the card under the budget may give k placements

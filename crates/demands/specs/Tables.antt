@@ -1,5 +1,5 @@
 -- The twelve small tables of 01, on cards.
---   kindOf t                 == the kind of the table t
+--   kindOf t                 == the kind of the table t, by the places of its first entry (`kindBy`, `kindIn`)
 --   Holds ts                 == what build says of each table in ts is what 01 says of it, at every budget not below its placements
 --   OnCard t card            == the card has the entries of the table t
 --   Within t t′              == there are two cards as demand 3 takes them, the narrower of the table t, the other of t′

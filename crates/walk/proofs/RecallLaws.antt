@@ -7,7 +7,7 @@ use mathlib.Core.List.{List, _++_, map}
 use mathlib.Core.Option.{Option}
 use Prim.Native.Nat.{ℕ, zero, suc, _+_, _*_, _-_, _≤_, _<_}
 use native.Mathlib.Omega.{arith}
-use lib.ListN.{length, getD, take, replicate, length-map, length-replicate, getD-replicate}
+use lib.ListN.{length, take, replicate, length-map, length-replicate, getD-replicate}
 use lib.Seq.{length-take-le}
 use Rattle.sequence.specs.Lists.{In}
 use Rattle.sequence.specs.Numbers.{numbers}

@@ -1,6 +1,6 @@
 -- What the walk needs of a card's lists: its spans rise, and its words are not the mark for no word. Assumes nothing.
 use mathlib.Core.List.{List}
-use Prim.Native.Nat.{ℕ, _-_, _≤_, _<_}
+use Prim.Native.Nat.{ℕ, _≤_, _<_}
 use native.Mathlib.Omega.{arith}
 use lib.ListN.{length, getD}
 use Rattle.entries.specs.Fault.{mostLength}
