@@ -1,7 +1,5 @@
--- Settling has no budget to run out of: it never answers Unsettled, and its placements are 0.
---   Unbudgeted r       == the answer r is a verdict with placements 0, or a refusal
--- Assumes nothing.
-use mathlib.Core.Path.{_≡_, refl}
+-- Settling has no budget to run out of: it never answers Unsettled, and its placements are 0. Assumes nothing.
+use mathlib.Core.Path.{refl}
 use mathlib.Core.List.{List}
 use Prim.Native.Nat.{ℕ}
 use Rattle.answers.specs.Answer.{Answer, given, Test}
@@ -9,16 +7,8 @@ use Rattle.entries.specs.declared.Slot.{Slot}
 use Rattle.sequence.specs.Verdict.{sole, several, noBuild, Outcome}
 use Rattle.layers.specs.Settling.{Means, settles}
 use Rattle.builds.specs.declared.BuildAnswer.{BuildAnswer}
-use Rattle.builds.specs.declared.BuildAnswer.the-variants.{Sole, Several, None, Unsettled, Refused}
 use Rattle.builds.specs.Building.{answerOf}
-use Rattle.narrow.specs.Settling.{Settled, tells, refuses, Settles}
-
-abbrev pub Unbudgeted : BuildAnswer → Type 0
-Unbudgeted (Sole n k) = k ≡ 0
-Unbudgeted (Several n k) = k ≡ 0
-Unbudgeted (None k) = k ≡ 0
-Unbudgeted (Unsettled k) = ⊥
-Unbudgeted (Refused r) = Unit {0}
+use Rattle.narrow.specs.Settling.{Settled, tells, refuses, Settles, Unbudgeted}
 
 means-unbudgeted : {l : ℕ} {es : List Slot} {o : Outcome} → Means l es o → Unbudgeted (answerOf (given o))
 means-unbudgeted (settles {v = sole s} _) = refl

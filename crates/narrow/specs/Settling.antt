@@ -10,6 +10,7 @@
 --                                == what is said of lists
 --   Settles form Says before r after
 --                                == r is, in this form, an answer that Says holds of, and `after` is the output then, which was `before`
+--   Unbudgeted r                 == the answer r is a verdict with placements 0, or a refusal
 -- Assumes nothing.
 use mathlib.Core.Path.{_≡_}
 use mathlib.Core.List.{List, [], _∷_, _++_}
@@ -25,6 +26,8 @@ use Rattle.lists.specs.Lists.{formatFor, listsTests}
 use Rattle.sequence.specs.Verdict.{Outcome}
 use Rattle.layers.specs.Narrow.{isNarrow}
 use Rattle.layers.specs.Settling.{Means}
+use Rattle.builds.specs.declared.BuildAnswer.{BuildAnswer}
+use Rattle.builds.specs.declared.BuildAnswer.the-variants.{Sole, Several, None, Unsettled, Refused}
 use Rattle.builds.specs.Building.{lettersIn, buildTests, slotsOn, lettersAfter}
 
 -- "30 Wider with the first entry over 4"
@@ -58,3 +61,11 @@ pub record Settles {R : Type 0} (form : Answer Outcome → R) (Says : Answer Out
   pub says : Says said
   pub answer : r ≡ form said
   pub output : after ≡ lettersAfter said before
+
+-- "with no budget […] and its placements are 0"
+abbrev pub Unbudgeted : BuildAnswer → Type 0
+Unbudgeted (Sole n k) = k ≡ 0
+Unbudgeted (Several n k) = k ≡ 0
+Unbudgeted (None k) = k ≡ 0
+Unbudgeted (Unsettled k) = ⊥
+Unbudgeted (Refused r) = Unit {0}
