@@ -30,7 +30,7 @@ use Rattle.builds.specs.Building.{buildTests, slotsOn, entriesOn, answerOf, let
 use Rattle.builds.proofs.Determined.{says-one, told-one, builds-one}
 use Rattle.demands.specs.Demanded.{Fits, Matches, Passes, PlacementsOf, Meant, Settles, HasBuild, IsSeveral, Letters, sequenceIn, Widened}
 use Rattle.demands.proofs.MeaningLaws.{said-sole, said-several, said-none, settles-given, says-holds, card-kind, card-letters, card-entries, card-words}
-use Rattle.demands.proofs.MeantLaws.{said-meant, meant-builds}
+use Rattle.demands.proofs.MeantLaws.{said-meant, meant-builds, some-meant}
 use Rattle.demands.proofs.CompareLaws.{said-later, said-narrowed, said-fits, gives-build, later-told, several-told, sole-narrowed-told, none-narrowed, holds-given, settled-larger, same-sequence}
 use Rattle.demands.proofs.MatchedLaws.{build-matches, matches-build}
 
@@ -44,6 +44,11 @@ module _ {card before after : List ℕ} {budget : ℕ} {r : BuildAnswer} (b : Bu
 
   pub means-when : (r′ : BuildAnswer) {after′ : List ℕ} → Meant card budget before r′ after′ → (r ≡ r′) × (after ≡ after′)
   means-when r′ m = builds-one b (meant-builds r′ m)
+
+-- "For every card, budget and lent buffer there is one of the answers": one that means what its case says, whatever the call is. That the call
+-- gives it is `means-when`
+pub answered : (card : List ℕ) (budget : ℕ) (before : List ℕ) → (r : BuildAnswer) × (after : List ℕ) × Meant card budget before r after
+answered = some-meant
 
 -- any two outcomes that meet the contract are one
 pub one-outcome : {card before after after′ : List ℕ} {budget : ℕ} {r r′ : BuildAnswer} → Builds mostEntries card budget before r after

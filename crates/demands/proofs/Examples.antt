@@ -1,10 +1,10 @@
--- The lists of the twelve tables of 01, and of those of `Within`, pass the tests of lists, and have the tables' entries: by computation. Assumes
--- nothing.
+-- The lists of the twelve tables of 01, and of those of `Within`, pass the tests of lists, and have the tables' entries, and what those of
+-- `Within` say is true: by computation. Assumes nothing.
 --   wordsOf t, onesOf t, twosOf t    == the lists of the table t
 --   tested t                         == what is said of them
---   compared                         == P2 and S2 with their entries in another order, and P1 and S1, within which they are
+--   comparedPairs, comparedSpans     == the tables of `widenings`
 use mathlib.Core.Path.{_≡_, refl}
-use mathlib.Core.List.{List, [], _∷_, map}
+use mathlib.Core.List.{List, [], _∷_, _++_, map, flatMap}
 use Prim.Native.Nat.{ℕ}
 use Rattle.answers.specs.Answer.{Answer, Sound, given, first, sound}
 use Rattle.answers.specs.Row.{row, inTurn}
@@ -13,8 +13,15 @@ use Rattle.entries.specs.Entry.{placesOf, entryOf}
 use Rattle.entries.specs.Fault.{pairHolds, spanHolds, placesHold, entryTests}
 use Rattle.layout.specs.Bounds.{mostEntries}
 use Rattle.lists.specs.Lists.{listsTests}
-use Rattle.sequence.specs.Tables.{Table, storedIn, p1, s1, tables}
-use Rattle.demands.specs.Tables.{kindOf, p2Turned, s2Turned}
+use Rattle.entries.specs.declared.Places.the-variants.{One, Two}
+use Rattle.entries.specs.Fault.{pair, span}
+use Rattle.sequence.specs.Arrangement.{overlaps}
+use Rattle.sequence.specs.Tables.{Table, storedIn, p1, p2, p3, p4, s1, s2, s3, tables}
+use Rattle.sequence.proofs.Enumerator.{sequences}
+use Rattle.sequence.proofs.VerdictOf.{verdictOf}
+use Rattle.sequence.proofs.Tables.{decided}
+use Rattle.spans.specs.Walk.{placements}
+use Rattle.demands.specs.Tables.{kindOf, p2Turned, p1Longer, p4Less, s2Turned, s1Wider, s2Less, s3Less}
 
 abbrev pub wordsOf : Table → List ℕ
 wordsOf t = map (λ s. s .word) (storedIn t)
@@ -40,8 +47,14 @@ all-stored = refl
 
 -- ---- those of `Within`
 
+abbrev pub comparedPairs : List Table
+comparedPairs = p2Turned ∷ p1 ∷ p3 ∷ p1Longer (One 4) ∷ p1Longer (Two 0 4) ∷ p4 ∷ p2 ∷ p4Less ∷ []
+
+abbrev pub comparedSpans : List Table
+comparedSpans = s2Turned ∷ s1 ∷ s1Wider ∷ s2Less ∷ s2 ∷ s3Less ∷ s3 ∷ []
+
 abbrev pub compared : List Table
-compared = p2Turned ∷ p1 ∷ s2Turned ∷ s1 ∷ []
+compared = comparedPairs ++ comparedSpans
 
 pub compared-hold : map tested compared ≡ map (λ t. given sound) compared
 unfolding listsTests entryTests placesHold pairHolds spanHolds slotFrom inTurn first
@@ -54,3 +67,16 @@ compared-stored = refl
 pub compared-entries : map (λ t. map (entryOf (kindOf t)) (storedIn t)) compared ≡ map (λ t. t .entries) compared
 unfolding entryOf placesOf
 compared-entries = refl
+
+pub compared-decided : map decided compared ≡ map (λ t. t .verdict) compared
+unfolding verdictOf sequences overlaps
+compared-decided = refl
+
+pub pairs-compared : (map kindOf comparedPairs ≡ map (λ t. pair) comparedPairs)
+    × (map (λ t. t .placements) comparedPairs ≡ map (λ t. 0) comparedPairs)
+pairs-compared = (refl, refl)
+
+pub spans-compared : (map kindOf comparedSpans ≡ map (λ t. span) comparedSpans)
+    × (map (λ t. placements 2 (storedIn t)) comparedSpans ≡ map (λ t. t .placements) comparedSpans)
+unfolding placements flatMap overlaps
+spans-compared = (refl, refl)

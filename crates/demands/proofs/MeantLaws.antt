@@ -1,22 +1,30 @@
 -- What an answer means and what is promised of it are one: an answer that meets build's contract means what its case says, and one that
--- means what its case says meets the contract. Assumes nothing.
+-- means what its case says meets the contract; and for every card, budget and output there is one. Assumes nothing.
 use mathlib.Core.Path.{_≡_, refl, ap, subst}
 use mathlib.Core.Logic.{⊎-elim}
-use mathlib.Core.List.{List, map}
+use mathlib.Core.List.{List, _++_, map}
+use mathlib.Core.Bool.{Bool, true, false}
 use Prim.Native.Nat.{ℕ}
-use lib.ListN.{length}
-use Rattle.answers.specs.Answer.{Answer, given, refused}
+use native.Mathlib.Omega.{arith}
+use lib.ListN.{length, drop}
+use lib.Dec.{leb}
+use borrow.Author.Tests.{leb-true, leb-false}
+use Rattle.answers.specs.Answer.{Answer, Sound, given, refused, first, sound}
+use Rattle.letters.specs.Letters.{letterOf}
 use Rattle.entries.specs.Entry.{entryOf}
 use Rattle.entries.specs.Fault.{pair, span}
 use Rattle.layout.specs.Bounds.{mostEntries}
 use Rattle.layout.specs.Layout.{toldBy}
 use Rattle.sequence.specs.Build.{Build}
 use Rattle.sequence.specs.Verdict.{Verdict, sole, several, noBuild, Tells, settled, unsettled, Outcome}
+use Rattle.sequence.proofs.Enumerator.{sequences}
+use Rattle.sequence.proofs.VerdictOf.{verdictOf, enumerated}
+use Rattle.spans.specs.Walk.{placements}
 use Rattle.spans.specs.Settling as spans
 use Rattle.pairs.specs.Settling as pairs
 use Rattle.builds.specs.declared.BuildAnswer.{BuildAnswer}
 use Rattle.builds.specs.declared.BuildAnswer.the-variants.{Sole, Several, None, Unsettled, Refused}
-use Rattle.builds.specs.Building.{slotsOn, on-pairs, on-spans, Says, tells, refuses, answerOf, lettersAfter, Builds}
+use Rattle.builds.specs.Building.{buildTests, slotsOn, entriesOn, on-pairs, on-spans, Says, tells, refuses, answerOf, lettersAfter, Builds}
 use Rattle.demands.specs.Demanded.{Fits, Passes, PlacementsOf, Meant}
 use Rattle.demands.proofs.MeaningLaws.{means-tells, means-placements, means-unsettled, card-kind}
 
@@ -69,3 +77,44 @@ meant-builds (Unsettled k) (passes, ((kind, at, over), out)) =
     record { said = given (unsettled k); says = tells passes (on-spans kind (spans.goes-on at over)); answer = refl; output = out }
 meant-builds (Refused r) (e, out) =
     record { said = refused (r .number) (r .place); says = refuses e; answer = refl; output = out }
+
+-- ---- and there is always one
+
+module _ (card : List ℕ) (budget : ℕ) (before : List ℕ) where
+  abbrev pub SomeMeant : Type 0
+  SomeMeant = (r : BuildAnswer) × (after : List ℕ) × Meant card budget before r after
+
+  -- of a card whose tests hold a verdict over all builds, which there is (`enumerated`)
+  verdict-meant : (v : Verdict) (k : ℕ) → Passes card (length before) → PlacementsOf card budget k → Tells (Fits card) v → SomeMeant
+  verdict-meant (sole s) k passes placed told =
+      (Sole (length s) k, map letterOf s ++ drop (length s) before, (passes, placed, (s, told, (refl, refl))))
+  verdict-meant (several s) k passes placed told =
+      (Several (length s) k, map letterOf s ++ drop (length s) before, (passes, placed, (s, told, (refl, refl))))
+  verdict-meant noBuild k passes placed told = (None k, before, (passes, placed, (told, refl)))
+
+  settled-meant : (k : ℕ) → Passes card (length before) → PlacementsOf card budget k → SomeMeant
+  settled-meant k passes placed =
+      verdict-meant (verdictOf (sequences (toldBy card .l) (entriesOn card))) k passes placed (enumerated (toldBy card .l) (entriesOn card))
+
+  -- on a span card after so many placements, or the budget is spent
+  pub some-meant : SomeMeant
+  some-meant = tried (first (buildTests mostEntries card (length before)) sound) refl
+    where
+      within : (t : Bool) → leb (placements (toldBy card .l) (slotsOn card)) budget ≡ t → toldBy card .kind ≡ span
+          → Passes card (length before)
+          → SomeMeant
+      within true e kind passes =
+          settled-meant (placements (toldBy card .l) (slotsOn card)) passes
+          (record {
+            on-spans = λ f. (refl, leb-true (placements (toldBy card .l) (slotsOn card)) budget e);
+            on-pairs = λ f. absurd (omega (arith, kind, f));
+          })
+      within false e kind passes =
+          (Unsettled budget, before, (passes, ((kind, refl, leb-false (placements (toldBy card .l) (slotsOn card)) budget e), refl)))
+
+      tried : (a : Answer Sound) → first (buildTests mostEntries card (length before)) sound ≡ a → SomeMeant
+      tried (refused n p) e = (Refused (record { number = n; place = p }), before, (e, refl))
+      tried (given sound) e =
+          ⊎-elim (λ kind. settled-meant 0 e (record { on-spans = λ f. absurd (omega (arith, kind, f)); on-pairs = λ f. refl }))
+          (λ kind. within (leb (placements (toldBy card .l) (slotsOn card)) budget) refl kind e)
+          (card-kind card (length before) e)

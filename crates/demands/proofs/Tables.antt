@@ -45,11 +45,17 @@ module _ {card before after : List ℕ} {budget : ℕ} {r : BuildAnswer} (b : Bu
       let said = says-one (b .says) (tells {o = o} hold (rw (on .kind, on .letters, on .entries) m)) in
       (b .answer ∙ ap answerOf said, b .output ∙ ap (λ (a : Answer Outcome). lettersAfter a before) said)
 
-  -- each line of the list
+  -- each line of a list of which build says what it says
+  pub held-answered : {ts : List Table} → Holds ts → In t ts → t .placements ≤ budget
+      → (r ≡ answerOf (given (settled (t .verdict) (t .placements))))
+      × (after ≡ lettersAfter (given (settled (t .verdict) (t .placements))) before)
+  held-answered holds h g = outcome-answered (holds t h budget g)
+
+  -- each of the twelve
   pub table-answered : In t tables → t .placements ≤ budget
       → (r ≡ answerOf (given (settled (t .verdict) (t .placements))))
       × (after ≡ lettersAfter (given (settled (t .verdict) (t .placements))) before)
-  table-answered h g = outcome-answered (tables-hold t h budget g)
+  table-answered h g = held-answered tables-hold h g
 
 -- S1: "budget 7 gives Unsettled"
 pub s1-at-seven : {card before after : List ℕ} {r : BuildAnswer} → Builds mostEntries card 7 before r after

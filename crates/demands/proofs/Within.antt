@@ -1,60 +1,119 @@
--- Two cards as demand 3 takes them, of which the second allows more and the first does not, their entries in different orders: P2 within P1
--- ("P2 as P1 with AC{0}"), and S2 within S1. Assumes nothing.
+-- Two cards as demand 3 takes them, of which the second allows more and the first does not, for each verdict that demand 3 speaks of; in two of
+-- them the entries stand in different orders (`widenings`). So no theorem of demand 3 speaks of equal cards alone. Assumes nothing.
 use mathlib.Core.Path.{_≡_, refl, sym, _∙_}
+use mathlib.Core.Logic.{⊎-elim}
 use mathlib.Core.List.{List, [], _∷_, map}
-use mathlib.Core.Bool.{true, false, true≢false}
+use mathlib.Core.Bool.{Bool, true, false, _&&_, _||_, cond, true≢false}
 use Prim.Native.Nat.{ℕ, _≤_}
 use native.Mathlib.Omega.{arith}
-use lib.Dec.{leb}
-use borrow.Author.Tests.{leb-true, le-leb}
-use Rattle.answers.specs.Answer.{first}
+use lib.Dec.{eqb, leb}
+use borrow.Author.Tests.{leb-true, le-leb, eq-eqb}
 use Rattle.answers.proofs.Tests.{both}
 use Rattle.entries.specs.declared.Places.{Places}
 use Rattle.entries.specs.declared.Places.the-variants.{One, Two, Span}
 use Rattle.entries.specs.declared.Entry.{Entry}
 use Rattle.entries.specs.Entry.{allows, entryOf}
-use Rattle.sequence.specs.Lists.{In, here, there, Paired, nobody, pair}
+use Rattle.entries.specs.Fault.{pair, span}
+use Rattle.sequence.specs.Lists.{In, here, there, Paired, nobody}
 use Rattle.sequence.specs.Lists as lists
-use Rattle.sequence.specs.Verdict.{Widens}
-use Rattle.sequence.specs.Tables.{Table, A, C, entry, storedIn, p1, s1}
-use Rattle.sequence.proofs.ListLaws.{paired-in}
-use Rattle.sequence.proofs.Tables.{map-agree}
-use Rattle.builds.specs.Building.{entriesOn}
+use Rattle.sequence.specs.Verdict.{Tells, Widens, settled}
+use Rattle.sequence.specs.Build.{Build}
+use Rattle.sequence.specs.Tables.{Table, A, C, G, entry, storedIn, p1, p2, p3, p4, s1, s2, s3}
+use Rattle.sequence.proofs.ListLaws.{in-cons, not-in-nil, in-append, paired-in}
+use Rattle.sequence.proofs.Tables.{map-agree, tables-told}
+use Rattle.spans.specs.Walk.{placements}
+use Rattle.spans.specs.Settling as spans
+use Rattle.pairs.specs.Settling as pairs
+use Rattle.builds.specs.Building.{entriesOn, Means, on-pairs, on-spans}
 use Rattle.demands.specs.Demanded.{Widened}
-use Rattle.demands.specs.Tables.{kindOf, OnCard, Within, p2Turned, s2Turned}
-use Rattle.demands.proofs.Examples.{compared, compared-hold, compared-stored, compared-entries}
+use Rattle.demands.specs.Tables.{kindOf, Holds, OnCard, Within, p2Turned, p1Longer, p4Less, s2Turned, s1Wider, s2Less, s3Less, widenings}
+use Rattle.demands.proofs.Examples.{comparedPairs, comparedSpans, compared, compared-hold, compared-stored, compared-entries, compared-decided, pairs-compared, spans-compared}
 use Rattle.demands.proofs.Inhabited.{cards-of}
 
--- ---- the entries pair off, and not the other way round
+-- ---- the entries pair off
 
 module _ (w : ℕ) where
   wider : {ps qs : Places} → ((i : ℕ) → allows ps i ≡ true → allows qs i ≡ true)
       → Widens (record { word = w; places = ps }) (record { word = w; places = qs })
   wider h = record { word = refl; places = h }
 
-one-wider : (i : ℕ) → allows (One 0) i ≡ true → allows (Two 0 2) i ≡ true
-one-wider i h = rw h
+or-true : (t : Bool) → (t || true) ≡ true
+or-true true = refl
+or-true false = refl
+
+first-wider : (p q i : ℕ) → allows (One p) i ≡ true → allows (Two p q) i ≡ true
+first-wider p q i h = rw h
+
+second-wider : (p q i : ℕ) → allows (One q) i ≡ true → allows (Two p q) i ≡ true
+second-wider p q i h = rw h (or-true (eqb i p))
 
 span-wider : (f g f′ g′ : ℕ) → f′ ≤ f → g ≤ g′ → (i : ℕ) → allows (Span f g) i ≡ true → allows (Span f′ g′) i ≡ true
 span-wider f g f′ g′ a b i h =
     let in-span = both (leb f i) (leb i g) h in
     rw (le-leb f′ i (omega (arith, leb-true f i (in-span .0))), le-leb i g′ (omega (arith, leb-true i g (in-span .1)))) refl
 
+-- an entry beside its own, in the order of both lists; one whose places stay
+module _ {e e′ : Entry} {es es′ : List Entry} where
+  next : Widens e e′ → Paired Widens es es′ → Paired Widens (e ∷ es) (e′ ∷ es′)
+  next w more = lists.pair w here here more
+
+same : {e : Entry} {es es′ : List Entry} → Paired Widens es es′ → Paired Widens (e ∷ es) (e ∷ es′)
+same {e} more = next (record { word = refl; places = λ i h. h }) more
+
 p2-in-p1 : Paired Widens (p2Turned .entries) (p1 .entries)
 p2-in-p1 =
-    pair (wider 8 (λ i h. h)) here (there (there (there here)))
-    (pair (wider 4 (λ i h. h)) here (there here)
-    (pair (wider 2 (λ i h. h)) here (there here)
-    (pair (wider 1 one-wider) here here nobody)))
+    lists.pair (wider 8 (λ i h. h)) here (there (there (there here)))
+    (lists.pair (wider 4 (λ i h. h)) here (there here)
+    (lists.pair (wider 2 (λ i h. h)) here (there here)
+    (lists.pair (wider 1 (first-wider 0 2)) here here nobody)))
 
 s2-in-s1 : Paired Widens (s2Turned .entries) (s1 .entries)
 s2-in-s1 =
-    pair (wider 8 (λ i h. h)) here (there (there (there here)))
-    (pair (wider 4 (λ i h. h)) here (there here)
-    (pair (wider 2 (span-wider 1 2 0 2 (omega arith) (omega arith))) here (there here)
-    (pair (wider 1 (span-wider 0 0 0 2 (omega arith) (omega arith))) here here nobody)))
+    lists.pair (wider 8 (λ i h. h)) here (there (there (there here)))
+    (lists.pair (wider 4 (λ i h. h)) here (there here)
+    (lists.pair (wider 2 (span-wider 1 2 0 2 (omega arith) (omega arith))) here (there here)
+    (lists.pair (wider 1 (span-wider 0 0 0 2 (omega arith) (omega arith))) here here nobody)))
 
--- ---- so do the cards, and not the other way round
+-- ---- and not the other way round: all entries of one list that have the word w may stand at i, and one of the other may not
+
+module _ (w i : ℕ) where
+  abbrev allStand : List Entry → Bool
+  allStand [] = true
+  allStand (e ∷ es) = cond (eqb (e .word) w) (allows (e .places) i) true && allStand es
+
+  all-stand : (es : List Entry) → allStand es ≡ true → (e : Entry) → In e es → e .word ≡ w → allows (e .places) i ≡ true
+  all-stand (d ∷ es) h e lists.first q = rw (eq-eqb (d .word) w q) at (both (cond (eqb (d .word) w) (allows (d .places) i) true) (allStand es) h .0)
+  all-stand (d ∷ es) h e (lists.later m) q = all-stand es (both (cond (eqb (d .word) w) (allows (d .places) i) true) (allStand es) h .1) e m q
+
+  less : {es es′ : List Entry} (e : Entry) → In e es → e .word ≡ w → allows (e .places) i ≡ false → allStand es′ ≡ true
+      → Paired Widens es′ es → ⊥
+  less {es′ = es′} e m is never all paired =
+      let from = paired-in paired m in
+      let x = from .1 in
+      true≢false (sym (x .places i (all-stand es′ all (from .0) (from .2) (x .word ∙ is))) ∙ never)
+
+-- ---- what the tables say is what build says of them
+
+compared-holds : Holds compared
+compared-holds t h budget g = ⊎-elim of-pairs of-spans (in-append comparedPairs h)
+  where
+    told : (k : ℕ) → kindOf t ≡ k → Tells (Build 2 (map (entryOf k) (storedIn t))) (t .verdict)
+    told k e =
+        let is = map-agree (λ u. map (entryOf (kindOf u)) (storedIn u)) (λ u. u .entries) h compared-entries in
+        rw (rw e at is) (tables-told compared compared-decided t h)
+
+    of-pairs : In t comparedPairs → Means (kindOf t) 2 (storedIn t) budget (settled (t .verdict) (t .placements))
+    of-pairs m =
+        let kind = map-agree kindOf (λ u. pair) m (pairs-compared .0) in
+        rw (map-agree (λ u. u .placements) (λ u. 0) m (pairs-compared .1)) (on-pairs kind (pairs.settles {v = t .verdict} (told pair kind)))
+
+    of-spans : In t comparedSpans → Means (kindOf t) 2 (storedIn t) budget (settled (t .verdict) (t .placements))
+    of-spans m =
+        let kind = map-agree kindOf (λ u. span) m (spans-compared .0) in
+        let count = map-agree (λ u. placements 2 (storedIn u)) (λ u. u .placements) m (spans-compared .1) in
+        on-spans kind (spans.settles {v = t .verdict} (sym count) g (told span kind))
+
+-- ---- so the cards are there
 
 module _ {card card′ : List ℕ} {t t′ : Table} (on : OnCard t card) (on′ : OnCard t′ card′) (h : In t compared) (h′ : In t′ compared) where
   entries-are : (entriesOn card ≡ t .entries) × (entriesOn card′ ≡ t′ .entries)
@@ -64,8 +123,8 @@ module _ {card card′ : List ℕ} {t t′ : Table} (on : OnCard t card) (on′ 
   )
 
   widened-on : kindOf t ≡ kindOf t′ → Paired Widens (t .entries) (t′ .entries) → Widened card card′
-  widened-on same paired = record {
-    kind = on .kind ∙ same ∙ sym (on′ .kind);
+  widened-on alike paired = record {
+    kind = on .kind ∙ alike ∙ sym (on′ .kind);
     letters = on .letters ∙ sym (on′ .letters);
     entries = rw (entries-are .0, entries-are .1) paired;
   }
@@ -73,47 +132,95 @@ module _ {card card′ : List ℕ} {t t′ : Table} (on : OnCard t card) (on′ 
   not-widened : (Paired Widens (t′ .entries) (t .entries) → ⊥) → Widened card′ card → ⊥
   not-widened fewer more = fewer (rw (entries-are .0, entries-are .1) at (more .entries))
 
--- each entry with the word AC may stand at 2
-abbrev AtTwo : List Entry → Type 0
-AtTwo [] = Unit {0}
-AtTwo (e ∷ es) = (e .word ≡ 1 → allows (e .places) 2 ≡ true) × AtTwo es
+module _ {t t′ : Table} (h : In t compared) (h′ : In t′ compared) where
+  both-hold : Holds (t ∷ t′ ∷ [])
+  both-hold u m =
+      compared-holds u
+      (⊎-elim (λ e. rw e h) (λ m′. ⊎-elim (λ e. rw e h′) (λ none. absurd (not-in-nil none)) (in-cons m′)) (in-cons m))
 
-at-two : (es : List Entry) → AtTwo es → (e : Entry) → In e es → e .word ≡ 1 → allows (e .places) 2 ≡ true
-at-two (d ∷ es) h e lists.first w = h .0 w
-at-two (d ∷ es) h e (lists.later m) w = at-two es (h .1) e m w
+  within : kindOf t ≡ kindOf t′ → Paired Widens (t .entries) (t′ .entries) → (Paired Widens (t′ .entries) (t .entries) → ⊥) → Within t t′
+  within alike paired fewer =
+      let made = cards-of compared compared-hold compared-stored t h in
+      let made′ = cards-of compared compared-hold compared-stored t′ h′ in (
+        both-hold,
+        (
+          made .0,
+          made′ .0,
+          (made .1, made′ .1),
+          (widened-on (made .1) (made′ .1) h h′ alike paired, not-widened (made .1) (made′ .1) h h′ fewer),
+          (made .2, made′ .2),
+        ),
+      )
 
--- so they do on P1 and on S1, and a table whose AC may not allows less
-p1-at-two : AtTwo (p1 .entries)
-p1-at-two = (λ w. refl, (λ w. absurd (omega (arith, w)), (λ w. absurd (omega (arith, w)), (λ w. absurd (omega (arith, w)), tt))))
+-- where a table stands among those compared
+third : {x a b c : Table} {xs : List Table} → In x xs → In x (a ∷ b ∷ c ∷ xs)
+third h = lists.later (lists.later (lists.later h))
 
-s1-at-two : AtTwo (s1 .entries)
-s1-at-two = (λ w. refl, (λ w. absurd (omega (arith, w)), (λ w. absurd (omega (arith, w)), (λ w. absurd (omega (arith, w)), tt))))
+second : {x a b : Table} {xs : List Table} → In x xs → In x (a ∷ b ∷ xs)
+second h = lists.later (lists.later h)
 
-less : (es es′ : List Entry) (ac : Entry) → In ac es → ac .word ≡ 1 → allows (ac .places) 2 ≡ false → AtTwo es′ → Paired Widens es′ es → ⊥
-less es es′ ac m is-ac never all paired =
-    let from = paired-in paired m in
-    let w = from .1 in
-    true≢false (sym (w .places 2 (at-two es′ all (from .0) (from .2) (w .word ∙ is-ac))) ∙ never)
+p2-within : Within p2Turned p1
+p2-within =
+    within lists.first (lists.later lists.first) refl p2-in-p1
+    (less 1 2 (entry A C (One 0)) (lists.later (lists.later (lists.later lists.first))) refl refl refl)
 
-within : (t t′ : Table) → In t compared → In t′ compared → kindOf t ≡ kindOf t′ → Paired Widens (t .entries) (t′ .entries)
-    → (Paired Widens (t′ .entries) (t .entries) → ⊥)
-    → Within t t′
-within t t′ h h′ same paired fewer =
-    let made = cards-of compared compared-hold compared-stored t h in
-    let made′ = cards-of compared compared-hold compared-stored t′ h′ in (
-      made .0,
-      made′ .0,
-      (made .1, made′ .1),
-      (widened-on (made .1) (made′ .1) h h′ same paired, not-widened (made .1) (made′ .1) h h′ fewer),
-      (made .2, made′ .2),
-    )
+p3-within : Within p3 p1
+p3-within =
+    within (second lists.first) (lists.later lists.first) refl (next (wider 1 (second-wider 0 2)) (same (same (same nobody))))
+    (less 1 0 (entry A C (One 2)) lists.first refl refl refl)
 
-pub p2-within-p1 : Within p2Turned p1
-p2-within-p1 =
-    within p2Turned p1 lists.first (lists.later lists.first) refl p2-in-p1
-    (less (p2Turned .entries) (p1 .entries) (entry A C (One 0)) (lists.later (lists.later (lists.later lists.first))) refl refl p1-at-two)
+p1-within : Within (p1Longer (One 4)) (p1Longer (Two 0 4))
+p1-within =
+    within (third lists.first) (third (lists.later lists.first)) refl
+    (same (same (same (same (next (wider 0 (second-wider 0 4)) nobody)))))
+    (less 0 0 (entry A A (One 4)) (lists.later (lists.later (lists.later (lists.later lists.first)))) refl refl refl)
 
-pub s2-within-s1 : Within s2Turned s1
-s2-within-s1 =
-    within s2Turned s1 (lists.later (lists.later lists.first)) (lists.later (lists.later (lists.later lists.first))) refl s2-in-s1
-    (less (s2Turned .entries) (s1 .entries) (entry A C (Span 0 0)) (lists.later (lists.later (lists.later lists.first))) refl refl s1-at-two)
+p4-within : Within p4 p2
+p4-within =
+    within (third (second lists.first)) (third (third lists.first)) refl (same (same (same (next (wider 8 (first-wider 1 3)) nobody))))
+    (less 8 3 (entry G A (One 1)) (lists.later (lists.later (lists.later lists.first))) refl refl refl)
+
+p4-less-within : Within p4Less p4
+p4-less-within =
+    within (third (third (lists.later lists.first))) (third (second lists.first)) refl
+    (same (next (wider 4 (first-wider 1 3)) (same (same nobody))))
+    (less 4 3 (entry C A (One 1)) (lists.later lists.first) refl refl refl)
+
+s2-within : Within s2Turned s1
+s2-within =
+    within (third (third (second lists.first))) (third (third (third lists.first))) refl s2-in-s1
+    (less 1 2 (entry A C (Span 0 0)) (lists.later (lists.later (lists.later lists.first))) refl refl refl)
+
+s1-within : Within s1 s1Wider
+s1-within =
+    within (third (third (third lists.first))) (third (third (third (lists.later lists.first)))) refl
+    (next (wider 1 (span-wider 0 2 0 3 (omega arith) (omega arith))) (same (same (same nobody))))
+    (less 1 3 (entry A C (Span 0 2)) lists.first refl refl refl)
+
+s2-less-within : Within s2Less s2
+s2-less-within =
+    within (third (third (third (second lists.first)))) (third (third (third (third lists.first)))) refl
+    (same (next (wider 4 (span-wider 1 1 1 3 (omega arith) (omega arith))) (same (same nobody))))
+    (less 4 2 (entry C A (Span 1 1)) (lists.later lists.first) refl refl refl)
+
+s3-less-within : Within s3Less s3
+s3-less-within =
+    within (third (third (third (third (lists.later lists.first))))) (third (third (third (third (second lists.first))))) refl
+    (same (same (same (next (wider 8 (span-wider 1 1 1 2 (omega arith) (omega arith))) nobody))))
+    (less 8 2 (entry G A (Span 1 1)) (lists.later (lists.later (lists.later lists.first))) refl refl refl)
+
+-- each of the list
+
+module _ {A : Type 0} (P : A → Type 0) where
+  abbrev Every : List A → Type 0
+  Every [] = Unit {0}
+  Every (x ∷ xs) = P x × Every xs
+
+  each : (xs : List A) → Every xs → (x : A) → In x xs → P x
+  each (y ∷ xs) all x lists.first = all .0
+  each (y ∷ xs) all x (lists.later m) = each xs (all .1) x m
+
+pub each-within : (x : Table × Table) → In x widenings → Within (x .0) (x .1)
+each-within =
+    each (λ x. Within (x .0) (x .1)) widenings
+    (p2-within, (p3-within, (p1-within, (p4-within, (p4-less-within, (s2-within, (s1-within, (s2-less-within, (s3-less-within, tt)))))))))

@@ -2,8 +2,10 @@
 --   kindOf t                 == the kind of the table t, by the places of its first entry (`kindBy`, `kindIn`)
 --   Holds ts                 == what build says of each table in ts is what 01 says of it, at every budget not below its placements
 --   OnCard t card            == the card has the entries of the table t
---   Within t t′              == there are two cards as demand 3 takes them, the narrower of the table t, the other of t′
+--   Within t t′              == there are two cards as demand 3 takes them, the narrower of the table t, the other of t′, and what the tables say
+--                               of them is what build does
 --   p2Turned, s2Turned       == P2 and S2 with their entries in another order
+--   widenings                == tables of which the second allows more, with each verdict that demand 3 speaks of
 -- Assumes nothing.
 use mathlib.Core.Path.{_≡_}
 use mathlib.Core.List.{List, [], _∷_}
@@ -14,8 +16,8 @@ use Rattle.entries.specs.declared.Entry.{Entry}
 use Rattle.entries.specs.Fault.{pair, span}
 use Rattle.layout.specs.Layout.{toldBy}
 use Rattle.sequence.specs.Lists.{In}
-use Rattle.sequence.specs.Verdict.{settled}
-use Rattle.sequence.specs.Tables.{Table, A, C, G, entry, p2, s2, storedIn}
+use Rattle.sequence.specs.Verdict.{several, settled}
+use Rattle.sequence.specs.Tables.{Table, A, C, G, entry, p1, p2, p3, p4, s1, s2, s3, storedIn}
 use Rattle.builds.specs.Building.{lettersIn, slotsOn, Means}
 use Rattle.demands.specs.Demanded.{Passes, Widened}
 
@@ -45,12 +47,13 @@ pub record OnCard (t : Table) (card : List ℕ) : Type 0 where
 
 -- ---- cards as demand 3 takes them
 
--- there are a card of the one table and one of the other, both admitted, of which the second allows more, and the first does not
+-- there are a card of the one table and one of the other, both admitted, of which the second allows more, and the first does not; and what
+-- build says of each is what its table says
 abbrev pub Within : Table → Table → Type 0
 Within t t′ =
-    (card : List ℕ) × (card′ : List ℕ) × (OnCard t card × OnCard t′ card′)
+    Holds (t ∷ t′ ∷ []) × ((card : List ℕ) × (card′ : List ℕ) × (OnCard t card × OnCard t′ card′)
     × (Widened card card′ × (Widened card′ card → ⊥))
-    × (((room : ℕ) → lettersIn (toldBy card) ≤ room → Passes card room) × ((room : ℕ) → lettersIn (toldBy card′) ≤ room → Passes card′ room))
+    × (((room : ℕ) → lettersIn (toldBy card) ≤ room → Passes card room) × ((room : ℕ) → lettersIn (toldBy card′) ≤ room → Passes card′ room)))
 
 abbrev pub p2Turned : Table
 p2Turned =
@@ -67,3 +70,62 @@ s2Turned =
       verdict = s2 .verdict;
       placements = s2 .placements;
     }
+
+-- P1 and AA after it, which on the second may stand at 0 too: "several stays several"
+abbrev pub p1Longer : Places → Table
+p1Longer places =
+    record {
+      entries = entry A C (Two 0 2) ∷ entry C A (Two 1 3) ∷ entry A G (Two 0 2) ∷ entry G A (Two 1 3) ∷ entry A A places ∷ [];
+      verdict = several (A ∷ C ∷ A ∷ G ∷ A ∷ A ∷ []);
+      placements = 0;
+    }
+
+-- P4 with CA{1}
+abbrev pub p4Less : Table
+p4Less =
+    record {
+      entries = entry A C (One 0) ∷ entry C A (One 1) ∷ entry A G (Two 0 2) ∷ entry G A (One 1) ∷ [];
+      verdict = p4 .verdict;
+      placements = 0;
+    }
+
+-- S1 with AC[0,3]
+abbrev pub s1Wider : Table
+s1Wider =
+    record {
+      entries = entry A C (Span 0 3) ∷ entry C A (Span 1 3) ∷ entry A G (Span 0 2) ∷ entry G A (Span 1 3) ∷ [];
+      verdict = s1 .verdict;
+      placements = 8;
+    }
+
+-- S2 with CA[1,1]
+abbrev pub s2Less : Table
+s2Less =
+    record {
+      entries = entry A C (Span 0 0) ∷ entry C A (Span 1 1) ∷ entry A G (Span 1 2) ∷ entry G A (Span 1 3) ∷ [];
+      verdict = s2 .verdict;
+      placements = 4;
+    }
+
+-- S3 with GA[1,1], which takes fewer placements
+abbrev pub s3Less : Table
+s3Less =
+    record {
+      entries = entry A C (Span 0 0) ∷ entry C A (Span 1 1) ∷ entry A G (Span 2 3) ∷ entry G A (Span 1 1) ∷ [];
+      verdict = s3 .verdict;
+      placements = 1;
+    }
+
+-- sole, and several that is earlier or the same; several twice; none, and sole; none twice. Then the same of spans
+abbrev pub widenings : List (Table × Table)
+widenings =
+    (p2Turned, p1)
+    ∷ (p3, p1)
+    ∷ (p1Longer (One 4), p1Longer (Two 0 4))
+    ∷ (p4, p2)
+    ∷ (p4Less, p4)
+    ∷ (s2Turned, s1)
+    ∷ (s1, s1Wider)
+    ∷ (s2Less, s2)
+    ∷ (s3Less, s3)
+    ∷ []
