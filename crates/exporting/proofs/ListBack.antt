@@ -84,7 +84,8 @@ module _ (limit : ℕ) (few : limit ≤ mostNumber) (card : List ℕ) (admitted 
   pub listed-sound : scanning (listOf card) ≡ given (outlineOf (linesIn (listOf card)))
   listed-sound = text-sound kind l (row lineAt 0 m) fines agreeing (omega (arith, many, some-entry))
 
-  line-listed : (e : ℕ) → e < m → lineIn (listOf card) e ≡ lineAt e
+  -- each line is that of its entry
+  pub line-listed : (e : ℕ) → e < toldBy card .m → lineIn (listOf card) e ≡ lineFor (toldBy card .kind) (toldBy card .l) (slotOf card e)
   line-listed e h = ap (λ (xs : List Line). getD xs e (lineOf [])) lines-are ∙ row-is e h
 
   listed-many : length (linesOf (listOf card)) ≡ m

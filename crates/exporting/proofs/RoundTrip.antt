@@ -1,20 +1,24 @@
--- "Export from a card back to a list … must import to the same card." Assumes nothing.
+-- "Export from a card back to a list, without leading zeros and with a hyphen in every span (`7-7` if one wide), must import to the same card."
+-- Assumes nothing.
 use mathlib.Core.Path.{_≡_, refl, sym, ap, _∙_}
 use mathlib.Core.List.{List, _++_}
-use Prim.Native.Nat.{ℕ, _≤_}
+use Prim.Native.Nat.{ℕ, _+_, _≤_, _<_}
 use native.Mathlib.Omega.{arith}
 use lib.ListN.{length, take, drop}
 use Rattle.answers.specs.Answer.{given}
 use Rattle.answers.proofs.Laws.{first-both}
 use Rattle.entries.specs.Slot.{slotFrom}
-use Rattle.layout.specs.Layout.{toldBy, sizeOf}
+use Rattle.entries.specs.Fault.{span}
+use Rattle.layout.specs.Layout.{toldBy, slotOf, sizeOf}
 use Rattle.layout.specs.Card.{cardOf}
 use Rattle.card.specs.Fetching.{admission}
 use Rattle.lists.specs.Lists.{formatFor}
 use Rattle.lists.proofs.AdmittedLaws.{itsWords, itsOnes, itsTwos, length-its, admitted-size, its-accepted}
 use Rattle.writer.specs.Writing.{saysWritten}
 use Rattle.writer.proofs.WritingLaws.{card-given}
-use Rattle.probes.specs.Line.{mostNumber}
+use Rattle.probes.specs.declared.line.Marked.the-variants.{Run}
+use Rattle.probes.specs.Line.{Line, mostNumber}
+use Rattle.probes.specs.Lines.{lineIn}
 use Rattle.importing.specs.Importing.{cardIn, importing, Imports}
 use Rattle.importing.proofs.SoundCard.{card-in}
 use Rattle.importing.proofs.ImportingLaws.{importing-writes}
@@ -26,7 +30,8 @@ use Rattle.card.proofs.FetchingLaws.{admission-given}
 use Rattle.writer.specs.declared.Written.{Written}
 use Rattle.writer.proofs.AgainLaws.{again-card}
 use Rattle.exporting.specs.declared.Exported.{Exported}
-use Rattle.exporting.proofs.ListBack.{listed-sound, listed-stands}
+use Rattle.exporting.proofs.ListBack.{listed-sound, line-listed, listed-stands}
+use Rattle.exporting.proofs.PutLaws.{for-span}
 use Rattle.exporting.proofs.ExportLaws.{list-long}
 
 module _ (limit : ℕ) (few : limit ≤ mostNumber) (card : List ℕ) (admitted : admission limit card ≡ given (toldBy card)) where
@@ -75,6 +80,14 @@ module _ (limit : ℕ) (few : limit ≤ mostNumber) (card : List ℕ) {before af
       let rest = drop (length (listOf card)) before in
       let bytes : after ≡ listOf card ++ rest = rw answer at (did .bytes) in
       ap (take n) bytes ∙ take-at (listOf card) rest n size
+
+  -- "with a hyphen in every span (`7-7` if one wide)": line e of a span card's list is a run, from its first place to its last, counted from 1
+  pub hyphen-in-each : toldBy card .kind ≡ span → (e : ℕ) → e < toldBy card .m
+      → lineIn (take n after) e .listed ≡ Run (slotOf card e .one + 1) (slotOf card e .two + 1)
+  hyphen-in-each kind e h =
+      ap (λ (xs : List ℕ). lineIn xs e .listed) exported-list
+      ∙ ap (λ (x : Line). x .listed) (line-listed limit few card exported-admitted e h)
+      ∙ sym (for-span (toldBy card .kind) (slotOf card e) kind)
 
   -- "must import to the same card"
   pub exported-imports : {room end : List ℕ} {q : Written} → Imports limit (take n after) room q end → length card ≤ length room

@@ -1,6 +1,7 @@
 -- "For every pair card also report how many builds it has" (request 12), of `counting::count_card`. That the number is unique, and the
 -- same from the lists that a card is admitted into, stands in crates/counting/proofs/Determined.antt. Assumes nothing.
 use mathlib.Core.Path.{_≡_, refl, sym, ap, _∙_, subst}
+use mathlib.Core.Logic.{_⊎_, inl, inr}
 use mathlib.Core.List.{List, map}
 use Prim.Native.Nat.{ℕ, zero, suc}
 use native.Mathlib.Omega.{arith}
@@ -41,7 +42,7 @@ use Rattle.counting.proofs.CardLaws.{other-tests}
 use Rattle.demands.specs.Demanded.{Fits, Settles}
 use Rattle.demands.specs.Tables.{kindOf, OnCard}
 use Rattle.demands.proofs.MeaningLaws.{settles-given, means-tells, says-holds, says-means, made-slots}
-use Rattle.requests.specs.Counted.{NumberMeans, GoesWith}
+use Rattle.requests.specs.Counted.{OnPairCard, NumberMeans, GoesWith}
 use Rattle.requests.specs.Tables.{CountedTable, countedTables}
 use Rattle.requests.proofs.Examples.{all-counted, all-stored, all-pairs}
 
@@ -82,6 +83,16 @@ module _ (card : List ℕ) where
         answer = refl;
       }
   means-number (number.Refused r) e = record { said = refused (r .number) (r .place); says = refuses e; answer = refl }
+
+-- "For every pair card": one that is admitted is not refused
+pub counted-always : (card : List ℕ) {q : Number} → OnPairCard card → Counts numberOf (OfCard mostEntries card) q
+    → ((k : ℕ) × (q ≡ number.Power k)) ⊎ (q ≡ number.None)
+counted-always card {q} on c = rw (c .answer) (go (c .says))
+  where
+    go : {a : Answer Power} → OfCard mostEntries card a → ((k : ℕ) × (numberOf a ≡ number.Power k)) ⊎ (numberOf a ≡ number.None)
+    go (tells {p = two-to k} e m) = inl (k, refl)
+    go (tells {p = no-build} e m) = inr refl
+    go (refuses e) = absurd (given-not-refused (sym (hold-tests (readingOrder mostEntries card) _ (on .admitted) (on .kind)) ∙ e))
 
 -- "Refusals: 5 on a span card."
 pub span-refused-5 : (card : List ℕ) {q : Number} → first (readingOrder mostEntries card) sound ≡ given sound → toldBy card .kind ≡ span
