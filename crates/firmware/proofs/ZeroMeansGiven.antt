@@ -1,9 +1,11 @@
--- In every struct that has a number, 0 says that nothing was refused: a refusal's number is above 0. Assumes nothing.
+-- In every struct that has a number, 0 says that nothing was refused: a refusal's number is above 0, and no byte differs after it. Assumes
+-- nothing.
 use mathlib.Core.Path.{_≡_, refl, sym, _∙_}
 use mathlib.Core.List.{List}
 use Prim.Native.Nat.{ℕ, _<_}
+use native.Mathlib.Omega.{arith}
 use lib.ListN.{length}
-use Rattle.answers.specs.Answer.{Answer, given, refused, sound, Test, first}
+use Rattle.answers.specs.Answer.{Answer, given, refused, sound, Test, first, outputAfter}
 use Rattle.answers.proofs.Laws.{given-not-refused}
 use Rattle.answers.proofs.Only.{Numbered, only-refused}
 use Rattle.block.specs.Block.{fetchTests}
@@ -27,7 +29,7 @@ use Rattle.exporting.specs.Exporting.{exporting}
 use Rattle.exporting.proofs.RefusalNumbers.{exporting-number}
 use Rattle.sequence.specs.Many.{Power, two-to, no-build}
 use Rattle.sequence.specs.Verdict.{sole, several, noBuild, Outcome, settled, unsettled}
-use Rattle.builds.specs.Building.{buildTests, slotsOn, Says, tells, refuses}
+use Rattle.builds.specs.Building.{buildTests, slotsOn, lettersAfter, Says, tells, refuses}
 use Rattle.builds.proofs.CardLaws.{build-only}
 use Rattle.narrow.specs.Settling.{listsBuildTests, settleTests, Settled, Settles}
 use Rattle.narrow.specs.Settling as settling
@@ -189,3 +191,31 @@ module _ (limit kind l : ℕ) (words ones twos : List ℕ) {result : CountAnswer
 
   pub count-lists-zero : first (countTests kind (listsTests limit kind l words ones twos)) sound ≡ given sound → result .number ≡ 0
   count-lists-zero = count-zero c
+
+-- ---- "no byte of a lent buffer differs after it": where the number is above 0
+
+letters-untouched : (a : Answer Outcome) (before : List ℕ) → 0 < buildAnswer a .number → lettersAfter a before ≡ before
+letters-untouched (given o) before h = absurd (omega (arith, zero-given o))
+letters-untouched (refused n p) before h = refl
+
+pub build-untouched : {limit budget : ℕ} {card before after : List ℕ} {result : BuildAnswer} → Told limit card budget before result after
+    → 0 < result .number
+    → after ≡ before
+build-untouched {before = before} w h = w .output ∙ letters-untouched (w .said) before (rw (w .answer) at h)
+
+-- settling, of a card and of lists
+pub settle-untouched : {Says : Answer Outcome → Type 0} {before after : List ℕ} {result : BuildAnswer}
+    → Settles buildAnswer Says before result after
+    → 0 < result .number
+    → after ≡ before
+settle-untouched {before = before} c h = c .output ∙ letters-untouched (c .said) before (rw (c .answer) at h)
+
+-- writing, importing, exporting, and writing a FASTA record
+pub write-untouched : (a : Answer ℕ) (bytes before : List ℕ) → 0 < writeAnswer a .number → outputAfter bytes before a ≡ before
+write-untouched (given n) bytes before h = absurd (omega arith)
+write-untouched (refused n p) bytes before h = refl
+
+-- reading one, into either buffer
+pub read-fasta-untouched : (a : Answer (ℕ × ℕ)) (bytes before : List ℕ) → 0 < fastaAnswer a .number → outputAfter bytes before a ≡ before
+read-fasta-untouched (given parts) bytes before h = absurd (omega arith)
+read-fasta-untouched (refused n p) bytes before h = refl
