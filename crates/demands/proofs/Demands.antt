@@ -2,13 +2,13 @@
 -- before r after` is the contract of `build`: r is the answer, and `after` is the output, which was `before`. Each proof cites the laws of
 -- the layers below. That each call ends stands in `Ends`. Assumes nothing.
 use mathlib.Core.Path.{_≡_, refl, sym, ap, _∙_}
-use mathlib.Core.Logic.{_⊎_, ⊎-elim}
-use mathlib.Core.List.{List, _++_}
+use mathlib.Core.Logic.{_⊎_}
+use mathlib.Core.List.{List, _++_, map}
 use Prim.Native.Nat.{ℕ, _≤_, _<_}
-use native.Mathlib.Omega.{arith}
 use lib.ListN.{length, take, drop}
 use Rattle.answers.specs.declared.Refusal.{Refusal}
 use Rattle.answers.specs.Answer.{given, refused, first, sound}
+use Rattle.letters.specs.Letters.{letterOf}
 use Rattle.entries.specs.declared.Format.{Format}
 use Rattle.entries.specs.Fault.{span}
 use Rattle.layout.specs.Bounds.{mostEntries}
@@ -27,10 +27,11 @@ use Rattle.spans.specs.Walk.{placements}
 use Rattle.builds.specs.declared.BuildAnswer.{BuildAnswer}
 use Rattle.builds.specs.declared.BuildAnswer.the-variants.{Sole, Several, None, Unsettled, Refused}
 use Rattle.builds.specs.Building.{buildTests, slotsOn, entriesOn, answerOf, lettersAfter, Builds}
+use Rattle.builds.proofs.FromLaws.{letters-start}
 use Rattle.builds.proofs.Determined.{says-one, told-one, builds-one}
 use Rattle.demands.specs.Demanded.{Fits, Matches, Passes, PlacementsOf, Meant, Settles, HasBuild, IsSeveral, Letters, sequenceIn, Widened}
-use Rattle.demands.proofs.MeaningLaws.{said-sole, said-several, said-none, settles-given, says-holds, card-kind, card-letters, card-entries, card-words}
-use Rattle.demands.proofs.MeantLaws.{said-meant, meant-builds, some-meant}
+use Rattle.demands.proofs.MeaningLaws.{said-sole, said-several, said-none, settles-given, says-holds, card-letters, card-entries, card-words}
+use Rattle.demands.proofs.MeantLaws.{said-meant, meant-builds, placed-within, some-meant}
 use Rattle.demands.proofs.CompareLaws.{said-later, said-narrowed, said-fits, gives-build, later-told, several-told, sole-narrowed-told, none-narrowed, holds-given, settled-larger, same-sequence}
 use Rattle.demands.proofs.MatchedLaws.{build-matches, matches-build}
 
@@ -144,10 +145,7 @@ module _ {card before after : List ℕ} {budget : ℕ} where
 pub placed-when : (card : List ℕ) (room : ℕ) {budget : ℕ} → Passes card room
     → (toldBy card .kind ≡ span → placements (toldBy card .l) (slotsOn card) ≤ budget)
     → (k : ℕ) × PlacementsOf card budget k
-placed-when card room passes within =
-    ⊎-elim (λ e. (0, record { on-spans = λ f. absurd (omega (arith, e, f)); on-pairs = λ f. refl }))
-    (λ e. (placements (toldBy card .l) (slotsOn card), record { on-spans = λ f. (refl, within f); on-pairs = λ f. absurd (omega (arith, e, f)) }))
-    (card-kind card room passes)
+placed-when card room passes within = placed-within card room passes within
 
 module _ {card before after : List ℕ} {budget : ℕ} {r : BuildAnswer} (b : Builds mostEntries card budget before r after)
     (passes : Passes card (length before)) where
@@ -226,6 +224,11 @@ module _ {card card′ before before′ after after′ : List ℕ} {b : ℕ} {r 
         let z = said-none (q .said) (q .answer) in
         let h = said-narrowed more (p .says) (q .says) in
         rw (p .answer, a .1) (none-narrowed (a .0) (rw (a .1, z) at h))
+
+-- what an answer gives is the sequence that stands there
+pub sequence-stands : (s before : List ℕ) (k : ℕ) {after : List ℕ} → Letters s before after
+    → (sequenceIn (Sole (length s) k) after ≡ map letterOf s) × (sequenceIn (Several (length s) k) after ≡ map letterOf s)
+sequence-stands s before k e = rw e (letters-start s before, letters-start s before)
 
 -- "On one card, a settled answer and its placements stay the same under every larger budget.": and so does the sequence, whatever the second
 -- output was, if it has room

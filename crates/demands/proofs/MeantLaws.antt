@@ -4,7 +4,7 @@ use mathlib.Core.Path.{_≡_, refl, ap, subst}
 use mathlib.Core.Logic.{⊎-elim}
 use mathlib.Core.List.{List, _++_, map}
 use mathlib.Core.Bool.{Bool, true, false}
-use Prim.Native.Nat.{ℕ}
+use Prim.Native.Nat.{ℕ, _≤_}
 use native.Mathlib.Omega.{arith}
 use lib.ListN.{length, drop}
 use lib.Dec.{leb}
@@ -80,6 +80,15 @@ meant-builds (Refused r) (e, out) =
 
 -- ---- and there is always one
 
+-- placements that settle the card: the walk's where they are within the budget, and on a pair card 0
+pub placed-within : (card : List ℕ) (room : ℕ) {budget : ℕ} → Passes card room
+    → (toldBy card .kind ≡ span → placements (toldBy card .l) (slotsOn card) ≤ budget)
+    → (k : ℕ) × PlacementsOf card budget k
+placed-within card room passes within =
+    ⊎-elim (λ e. (0, record { on-spans = λ f. absurd (omega (arith, e, f)); on-pairs = λ f. refl }))
+    (λ e. (placements (toldBy card .l) (slotsOn card), record { on-spans = λ f. (refl, within f); on-pairs = λ f. absurd (omega (arith, e, f)) }))
+    (card-kind card room passes)
+
 module _ (card : List ℕ) (budget : ℕ) (before : List ℕ) where
   abbrev pub SomeMeant : Type 0
   SomeMeant = (r : BuildAnswer) × (after : List ℕ) × Meant card budget before r after
@@ -92,29 +101,26 @@ module _ (card : List ℕ) (budget : ℕ) (before : List ℕ) where
       (Several (length s) k, map letterOf s ++ drop (length s) before, (passes, placed, (s, told, (refl, refl))))
   verdict-meant noBuild k passes placed told = (None k, before, (passes, placed, (told, refl)))
 
-  settled-meant : (k : ℕ) → Passes card (length before) → PlacementsOf card budget k → SomeMeant
-  settled-meant k passes placed =
-      verdict-meant (verdictOf (sequences (toldBy card .l) (entriesOn card))) k passes placed (enumerated (toldBy card .l) (entriesOn card))
+  settled-meant : Passes card (length before) → (toldBy card .kind ≡ span → placements (toldBy card .l) (slotsOn card) ≤ budget) → SomeMeant
+  settled-meant passes within =
+      let placed = placed-within card (length before) passes within in
+      verdict-meant (verdictOf (sequences (toldBy card .l) (entriesOn card))) (placed .0) passes (placed .1)
+      (enumerated (toldBy card .l) (entriesOn card))
 
-  -- on a span card after so many placements, or the budget is spent
+  -- on a span card the budget may be spent
   pub some-meant : SomeMeant
   some-meant = tried (first (buildTests mostEntries card (length before)) sound) refl
     where
-      within : (t : Bool) → leb (placements (toldBy card .l) (slotsOn card)) budget ≡ t → toldBy card .kind ≡ span
+      on-span : (t : Bool) → leb (placements (toldBy card .l) (slotsOn card)) budget ≡ t → toldBy card .kind ≡ span
           → Passes card (length before)
           → SomeMeant
-      within true e kind passes =
-          settled-meant (placements (toldBy card .l) (slotsOn card)) passes
-          (record {
-            on-spans = λ f. (refl, leb-true (placements (toldBy card .l) (slotsOn card)) budget e);
-            on-pairs = λ f. absurd (omega (arith, kind, f));
-          })
-      within false e kind passes =
+      on-span true e kind passes = settled-meant passes (λ f. leb-true (placements (toldBy card .l) (slotsOn card)) budget e)
+      on-span false e kind passes =
           (Unsettled budget, before, (passes, ((kind, refl, leb-false (placements (toldBy card .l) (slotsOn card)) budget e), refl)))
 
       tried : (a : Answer Sound) → first (buildTests mostEntries card (length before)) sound ≡ a → SomeMeant
       tried (refused n p) e = (Refused (record { number = n; place = p }), before, (e, refl))
       tried (given sound) e =
-          ⊎-elim (λ kind. settled-meant 0 e (record { on-spans = λ f. absurd (omega (arith, kind, f)); on-pairs = λ f. refl }))
-          (λ kind. within (leb (placements (toldBy card .l) (slotsOn card)) budget) refl kind e)
+          ⊎-elim (λ kind. settled-meant e (λ f. absurd (omega (arith, kind, f))))
+          (λ kind. on-span (leb (placements (toldBy card .l) (slotsOn card)) budget) refl kind e)
           (card-kind card (length before) e)
