@@ -152,12 +152,12 @@ module _ {t t′ : Table} (h : In t compared) (h′ : In t′ compared) where
         ),
       )
 
--- where a table stands among those compared
-third : {x a b c : Table} {xs : List Table} → In x xs → In x (a ∷ b ∷ c ∷ xs)
-third h = lists.later (lists.later (lists.later h))
+-- where a table stands among those compared: past three others, and past two
+past-three : {x a b c : Table} {xs : List Table} → In x xs → In x (a ∷ b ∷ c ∷ xs)
+past-three h = lists.later (lists.later (lists.later h))
 
-second : {x a b : Table} {xs : List Table} → In x xs → In x (a ∷ b ∷ xs)
-second h = lists.later (lists.later h)
+past-two : {x a b : Table} {xs : List Table} → In x xs → In x (a ∷ b ∷ xs)
+past-two h = lists.later (lists.later h)
 
 p2-within : Within p2Turned p1
 p2-within =
@@ -166,46 +166,46 @@ p2-within =
 
 p3-within : Within p3 p1
 p3-within =
-    within (second lists.first) (lists.later lists.first) refl (next (wider 1 (second-wider 0 2)) (same (same (same nobody))))
+    within (past-two lists.first) (lists.later lists.first) refl (next (wider 1 (second-wider 0 2)) (same (same (same nobody))))
     (less 1 0 (entry A C (One 2)) lists.first refl refl refl)
 
 p1-within : Within (p1Longer (One 4)) (p1Longer (Two 0 4))
 p1-within =
-    within (third lists.first) (third (lists.later lists.first)) refl
+    within (past-three lists.first) (past-three (lists.later lists.first)) refl
     (same (same (same (same (next (wider 0 (second-wider 0 4)) nobody)))))
     (less 0 0 (entry A A (One 4)) (lists.later (lists.later (lists.later (lists.later lists.first)))) refl refl refl)
 
 p4-within : Within p4 p2
 p4-within =
-    within (third (second lists.first)) (third (third lists.first)) refl (same (same (same (next (wider 8 (first-wider 1 3)) nobody))))
+    within (past-three (past-two lists.first)) (past-three (past-three lists.first)) refl (same (same (same (next (wider 8 (first-wider 1 3)) nobody))))
     (less 8 3 (entry G A (One 1)) (lists.later (lists.later (lists.later lists.first))) refl refl refl)
 
 p4-less-within : Within p4Less p4
 p4-less-within =
-    within (third (third (lists.later lists.first))) (third (second lists.first)) refl
+    within (past-three (past-three (lists.later lists.first))) (past-three (past-two lists.first)) refl
     (same (next (wider 4 (first-wider 1 3)) (same (same nobody))))
     (less 4 3 (entry C A (One 1)) (lists.later lists.first) refl refl refl)
 
 s2-within : Within s2Turned s1
 s2-within =
-    within (third (third (second lists.first))) (third (third (third lists.first))) refl s2-in-s1
+    within (past-three (past-three (past-two lists.first))) (past-three (past-three (past-three lists.first))) refl s2-in-s1
     (less 1 2 (entry A C (Span 0 0)) (lists.later (lists.later (lists.later lists.first))) refl refl refl)
 
 s1-within : Within s1 s1Wider
 s1-within =
-    within (third (third (third lists.first))) (third (third (third (lists.later lists.first)))) refl
+    within (past-three (past-three (past-three lists.first))) (past-three (past-three (past-three (lists.later lists.first)))) refl
     (next (wider 1 (span-wider 0 2 0 3 (omega arith) (omega arith))) (same (same (same nobody))))
     (less 1 3 (entry A C (Span 0 2)) lists.first refl refl refl)
 
 s2-less-within : Within s2Less s2
 s2-less-within =
-    within (third (third (third (second lists.first)))) (third (third (third (third lists.first)))) refl
+    within (past-three (past-three (past-three (past-two lists.first)))) (past-three (past-three (past-three (past-three lists.first)))) refl
     (same (next (wider 4 (span-wider 1 1 1 3 (omega arith) (omega arith))) (same (same nobody))))
     (less 4 2 (entry C A (Span 1 1)) (lists.later lists.first) refl refl refl)
 
 s3-less-within : Within s3Less s3
 s3-less-within =
-    within (third (third (third (third (lists.later lists.first))))) (third (third (third (third (second lists.first))))) refl
+    within (past-three (past-three (past-three (past-three (lists.later lists.first))))) (past-three (past-three (past-three (past-three (past-two lists.first))))) refl
     (same (same (same (next (wider 8 (span-wider 1 1 1 2 (omega arith) (omega arith))) nobody))))
     (less 8 2 (entry G A (Span 1 1)) (lists.later (lists.later (lists.later lists.first))) refl refl refl)
 

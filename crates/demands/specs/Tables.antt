@@ -1,10 +1,13 @@
--- The twelve small tables of 01, on cards.
+-- Tables on cards: the twelve small tables of 01, and tables of cards as demand 3 takes them.
 --   kindOf t                 == the kind of the table t, by the places of its first entry (`kindBy`, `kindIn`)
---   Holds ts                 == what build says of each table in ts is what 01 says of it, at every budget not below its placements
+--   Holds ts                 == what build says of each table in ts is what the table says, at every budget not below its placements
 --   OnCard t card            == the card has the entries of the table t
 --   Within t t′              == there are two cards as demand 3 takes them, the narrower of the table t, the other of t′, and what the tables say
 --                               of them is what build does
 --   p2Turned, s2Turned       == P2 and S2 with their entries in another order
+--   p1Longer places          == P1 with one word more, which has these places
+--   p4Less, s2Less, s3Less   == P4, S2 and S3 with fewer places for one entry
+--   s1Wider                  == S1 with more places for one entry
 --   widenings                == tables of which the second allows more, with each verdict that demand 3 speaks of
 -- Assumes nothing.
 use mathlib.Core.Path.{_≡_}

@@ -210,12 +210,17 @@ pub settle-untouched : {Says : Answer Outcome → Type 0} {before after : List �
     → after ≡ before
 settle-untouched {before = before} c h = c .output ∙ letters-untouched (c .said) before (rw (c .answer) at h)
 
+-- an output that bytes are put into, whatever is given
+output-untouched : {A : Type 0} (number : Answer A → ℕ) → ((x : A) → number (given x) ≡ 0) → (a : Answer A) (bytes before : List ℕ)
+    → 0 < number a
+    → outputAfter bytes before a ≡ before
+output-untouched number zero (given x) bytes before h = absurd (omega (arith, zero x))
+output-untouched number zero (refused n p) bytes before h = refl
+
 -- writing, importing, exporting, and writing a FASTA record
 pub write-untouched : (a : Answer ℕ) (bytes before : List ℕ) → 0 < writeAnswer a .number → outputAfter bytes before a ≡ before
-write-untouched (given n) bytes before h = absurd (omega arith)
-write-untouched (refused n p) bytes before h = refl
+write-untouched = output-untouched (λ a. writeAnswer a .number) (λ n. refl)
 
 -- reading one, into either buffer
 pub read-fasta-untouched : (a : Answer (ℕ × ℕ)) (bytes before : List ℕ) → 0 < fastaAnswer a .number → outputAfter bytes before a ≡ before
-read-fasta-untouched (given parts) bytes before h = absurd (omega arith)
-read-fasta-untouched (refused n p) bytes before h = refl
+read-fasta-untouched = output-untouched (λ a. fastaAnswer a .number) (λ parts. refl)
