@@ -4,7 +4,8 @@
 --                                         == the lists of the place i and of the next are there, and the table has a cell for each state
 --   Grows from table table′               == what is kept stays kept, and the cells below `from` are as they were
 --   isTried … i k due tried               == the entry of slot k can stand at i, and its word is not the last one tried
---   Stepped … i k due tried r             == the entry of slot k was tried if it can stand, and then the state after it is kept; r is the last word tried
+--   Stepped … i k due tried r             == the entry of slot k was tried if it can stand, and then the state after it is kept; r is the
+--                                            last word tried
 --   Followed … marks table table′ i       == the states that follow on the state at i are kept
 --   Upto words ones twos starts slots table n
 --                                         == a state that follows on one that is kept and has its cell below n is kept; so is the first one

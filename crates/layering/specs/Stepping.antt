@@ -4,7 +4,8 @@
 --   Completes … marks i want r              == r says whether a build is completed from the state, after a word whose last letters are `want`
 --   Placing … marks table i e               == entry e is tried from the state at i, and of the state after it the table has the chances
 --   Trying … marks table i                  == of each state that follows on the state at i the table has the chances
---   Trials … marks i k due c tried          == the entries of the list before the slot k were tried: c has their digits, and `tried` was the last word
+--   Trials … marks i k due c tried          == the entries of the list before the slot k were tried: c has their digits, and `tried` was the
+--                                              last word
 --   Tried … marks marks′ i r                == r has the chances of the state at i, and the marks are as they were
 -- Assumes nothing.
 use mathlib.Core.Path.{_≡_}

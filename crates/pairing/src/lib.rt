@@ -1,6 +1,6 @@
-// The verdict on a pair card and its number of builds, from lists of words and places: the places of each entry and the list of each place are made, what is forced
-// is followed, the words are chosen place by place, and every entry gets a place. `pair` has a `requires`: its caller has admitted the
-// lists, and lends room.
+// The verdict on a pair card and its number of builds, from lists of words and places: the places of each entry and the list of each place
+// are made, what is forced is followed, the words are chosen place by place, and every entry gets a place. `pair` has a `requires`: its
+// caller has admitted the lists, and lends room.
 ghost use mathlib.Core.Path.{_≡_};
 ghost use Prim.Native.Nat.{ℕ, _*_, _<_};
 ghost use mathlib.Core.List.{List};
@@ -163,8 +163,8 @@ fn from_lists(
     from_places(at, words, mask, last, prev, put, trail, count, first)
 }
 
-// The verdict on a pair card that the entry rules admit, and its number of builds. Where there is a build, `first` begins with the words of the alphabetically first
-// one; the other lent lists are for work.
+// The verdict on a pair card that the entry rules admit, and its number of builds. Where there is a build, `first` begins with the words of
+// the alphabetically first one; the other lent lists are for work.
 pub fn pair(
     l: usize,
     words: &[u32],
