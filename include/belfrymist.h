@@ -165,21 +165,27 @@ typedef struct {
 } belfrymist_count_answer;
 
 /* Admits a card: tests all of it, and answers its kind, l and m.
+ *
  * Refuses, the first of these that holds: 1; in block 0: 2, 3, 4, 5, 6, 7, 8; 9; then in each later block in turn: 2, 3, its entries in
  * turn (10 before 11), 8. These are "the reader's refusals" below.
+ *
  * All of card_len is the card: a byte after it gives 9. */
 belfrymist_admit_answer belfrymist_admit(const uint8_t *card, size_t card_len);
 
 /* Fetches entry i, from 0. The card is admitted first.
+ *
  * Refuses: the reader's refusals, then 14 where i is m or more. */
 belfrymist_entry_answer belfrymist_entry(const uint8_t *card, size_t card_len, size_t i);
 
 /* A step of a reading head that stands at an entry, from 0: the entry, and in `next` the head moved one on. The card is admitted first.
+ *
  * At m or beyond it is the end: every field is 0, so that shape BELFRYMIST_NO_ENTRY with number 0 tells it.
+ *
  * Refuses: the reader's refusals, never 14. */
 belfrymist_step_answer belfrymist_step(const uint8_t *card, size_t card_len, size_t at);
 
 /* Whether block k, from 0, is there and its check and index hold: number 0 says so. The block need belong to no card that can be admitted.
+ *
  * Refuses: 14 where its 512 bytes are not all there, at 0; then 2, at k; then 3, at k. */
 belfrymist_held_answer belfrymist_companion(const uint8_t *card, size_t card_len, size_t k);
 
@@ -190,30 +196,40 @@ belfrymist_part_answer belfrymist_fetch(const uint8_t *card, size_t card_len, si
 /* Writes the card of this kind and l whose entry i is words[i], ones[i], twos[i]: the word, place one and place two, as a card stores them.
  * m is the length of the lists. The card stands at the start of out, `length` bytes of it: 512 * (1 + ceil(m / 63)); later bytes are
  * untouched. BELFRYMIST_MOST_CARD bytes are room for every card.
+ *
  * Refuses, the first of these that holds: 5; 6; 13; 7; each entry in turn, 10 before 11; 12 where out has fewer bytes than the card. */
 belfrymist_write_answer belfrymist_write(size_t kind, size_t l, const uint32_t *words, size_t words_len, const uint16_t *ones,
                                          size_t ones_len, const uint16_t *twos, size_t twos_len, uint8_t *out, size_t out_len);
 
 /* Builds the sequence of a card. The card is admitted first. The verdict is over all sequences whose words, in order, can be matched one to
  * one with the card's entries, each at an allowed place.
+ *
  * Sole and several: the letters stand at the start of out, `length` of them, as ASCII capitals with no zero after them; later bytes are
  * untouched. None and unsettled: no byte of out is touched, and length is 0.
+ *
  * The budget bounds the placements of the walk on a span card, and with them the time; a pair card is always settled, with 0
  * placements. A settled answer is the same under every larger budget.
+ *
  * Refuses: the reader's refusals, then 12 where out has fewer than m + l - 1 bytes, whichever verdict would follow.
+ *
  * BELFRYMIST_MOST_SEQUENCE bytes are room for every card. */
 belfrymist_build_answer belfrymist_build(const uint8_t *card, size_t card_len, uint32_t budget, uint8_t *out, size_t out_len);
 
 /* Settles a span card whose spans are at most 4 wide. The card is admitted first. The verdict is sole, several or none, over all sequences as
  * belfrymist_build has it, and never unsettled: there is no budget. Placements are 0. The time is at most in proportion to m, which is
  * measured and not proved. Wherever belfrymist_build settles the card, verdict, length and letters are the same.
+ *
  * Sole and several: the letters stand at the start of out, `length` of them, as ASCII capitals with no zero after them; later bytes are
  * untouched. None: no byte of out is touched, and length is 0.
+ *
  * Refuses: the reader's refusals; then 12 where out has fewer than m + l - 1 bytes, whichever verdict would follow; then 5 on a pair card; then
- * 30 at the first entry whose span is over 4 wide. BELFRYMIST_MOST_SEQUENCE bytes are room for every card. */
+ * 30 at the first entry whose span is over 4 wide.
+ *
+ * BELFRYMIST_MOST_SEQUENCE bytes are room for every card. */
 belfrymist_build_answer belfrymist_settle(const uint8_t *card, size_t card_len, uint8_t *out, size_t out_len);
 
 /* The same of the card of this kind and l whose entry i is words[i], ones[i], twos[i], as belfrymist_write takes them.
+ *
  * Refuses, the first of these that holds: 5 where the kind is neither 1 nor 2; 6; 13; 7; each entry in turn, 10 before 11; 12; then 5 where the
  * kind is pair; then 30. */
 belfrymist_build_answer belfrymist_settle_lists(size_t kind, size_t l, const uint32_t *words, size_t words_len, const uint16_t *ones,
@@ -223,10 +239,12 @@ belfrymist_build_answer belfrymist_settle_lists(size_t kind, size_t l, const uin
  * a sequence, so that two ways that only exchange equal words are one. belfrymist_build, with room for the sequence, says sole of such a card
  * exactly where `any` is 1 and the exponent 0, several where the exponent is above 0, and none where `any` is 0. There is no output and no
  * budget.
+ *
  * Refuses: the reader's refusals, then 5 on a span card, of which no number is given. */
 belfrymist_count_answer belfrymist_count(const uint8_t *card, size_t card_len);
 
 /* The same of the card of this kind and l whose entry i is words[i], ones[i], twos[i], as belfrymist_write takes them.
+ *
  * Refuses, the first of these that holds: 5 where the kind is neither 1 nor 2; 6; 13; 7; each entry in turn, 10 before 11; then 5 where the
  * kind is span. */
 belfrymist_count_answer belfrymist_count_lists(size_t kind, size_t l, const uint32_t *words, size_t words_len, const uint16_t *ones,
@@ -236,8 +254,10 @@ belfrymist_count_answer belfrymist_count_lists(size_t kind, size_t l, const uint
  * `7`, `3,7` or `3-7`, and a newline, the last line too. A number is at most 65,535, without needless zeros before it. On a list places count from
  * 1: a listed place p is place p - 1 of the card. A list with a comma makes a pair card, one with a hyphen a span card, on which `7` means `7-7`,
  * and one with neither a pair card. l is the letters of the first word, m the number of lines.
+ *
  * The card stands at the start of out, `length` bytes of it, as belfrymist_write has it; later bytes are untouched. BELFRYMIST_MOST_CARD bytes
  * are room for every card.
+ *
  * Refuses, the first of these that holds: each line in turn: 23, 24, 25, 26, with the line from 1, and 23 at 1 where list_len is 0; then of the card:
  * 6; 7; each entry in turn, 11, with the entry from 0; then 12 where out has fewer bytes than the card. 5, 10 and 13 do not occur. A carriage
  * return and a byte-order mark are 23. */
@@ -245,16 +265,20 @@ belfrymist_write_answer belfrymist_import(const uint8_t *list, size_t list_len, 
 
 /* Writes the probe list of a card, which belfrymist_import makes the same card of. The card is admitted first. There is a line for each entry, in
  * their order, with places counted from 1: `7` or `3,7` on a pair card, `3-7` on a span card, and `7-7` for a span one place wide.
+ *
  * The list stands at the start of out, `length` bytes of it, with no zero after it; later bytes are untouched. BELFRYMIST_MOST_LIST bytes are room
  * for every list.
+ *
  * Refuses: the reader's refusals, then 12 where out has fewer bytes than the list. */
 belfrymist_write_answer belfrymist_export(const uint8_t *card, size_t card_len, uint8_t *out, size_t out_len);
 
 /* Writes the FASTA record of a name and letters: `>`, the name, a newline, then the letters in lines of 60, the last one shorter or full, each ended
  * by a newline. A name is 1 to 40 printable ASCII characters without spaces; letters are the capitals A, C, G and T, 1 or more of them, as
  * belfrymist_build gives them.
+ *
  * The record stands at the start of out, `length` bytes of it, with no zero after it; later bytes are untouched. It has
  * name_len + letters_len + ceil(letters_len / 60) + 2 bytes. BELFRYMIST_MOST_RECORD bytes are room for the record of every build.
+ *
  * Refuses, the first of these that holds: 20; 21 with the number of letters before the first byte that is none, and at 0 where letters_len is 0;
  * 12 where out has fewer bytes than the record. */
 belfrymist_write_answer belfrymist_write_fasta(const uint8_t *name, size_t name_len, const uint8_t *letters, size_t letters_len, uint8_t *out,
@@ -263,6 +287,7 @@ belfrymist_write_answer belfrymist_write_fasta(const uint8_t *name, size_t name_
 /* Reads a FASTA record, laid out as belfrymist_write_fasta does it and in no other way. The name stands at the start of name_out, `name` bytes of it,
  * and the letters, without their line ends, at the start of letters_out, `letters` of them, with no zero after either; later bytes are untouched.
  * BELFRYMIST_MOST_NAME bytes are room for every name, and record_len bytes for the letters.
+ *
  * Refuses, the first of these that holds of the whole record: 20 where it does not begin with `>`, a name and a newline; 21 where a byte after that
  * is neither a letter nor a newline, with the number of letters before it, and at 0 where there is no letter; 22 where the lines are not those that
  * belfrymist_write_fasta makes of the letters; 12 where name_out or letters_out is too short. All of record_len is the record: a second record after
