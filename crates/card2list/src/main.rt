@@ -3,7 +3,13 @@ use libc::STDERR_FILENO;
 use libc::STDOUT_FILENO;
 
 fn main() {
-    let card = input::read();
+    if !streams::called_with(0, b"usage: card2list < CARD > LIST\n") {
+        return;
+    }
+    let card = streams::card::read(b"card2list: standard input");
+    if !card.whole {
+        return;
+    }
     let bytes = card.bytes;
     let n = card.n;
     let mut out = [0u8; exporting::LIST];
@@ -11,6 +17,6 @@ fn main() {
     let written = converting::to_list::convert(&bytes[..n], &mut out, &mut err);
     let output = written.output;
     let errors = written.errors;
-    io::write_all(STDOUT_FILENO, &out[..output]);
+    streams::write(STDOUT_FILENO, &out[..output], b"card2list: standard output");
     io::write_all(STDERR_FILENO, &err[..errors]);
 }

@@ -19,7 +19,7 @@ use Rattle.exporting.specs.declared.Exported.{Exported}
 use Rattle.exporting.specs.declared.Exported.the-variants as exported
 use Rattle.exporting.specs.Exporting.{listOf, exporting, listRoom, saysExported, Exports}
 use Rattle.exporting.proofs.ExportLaws.{list-long}
-use Rattle.input.specs.Input.{mostList}
+use Rattle.streams.specs.Input.{mostList}
 use Rattle.converting.specs.Converting.{onErrors, byAnswer, tooLong, toCard, toList, Converted}
 
 -- ---- by an answer

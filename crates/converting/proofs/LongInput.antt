@@ -19,7 +19,7 @@ use Rattle.importing.specs.Importing.{cardIn, importing, Imports}
 use Rattle.importing.proofs.Imported.{imported-short}
 use Rattle.exporting.specs.Exporting.{listRoom}
 use Rattle.exporting.proofs.ExportLaws.{card-refused}
-use Rattle.input.specs.Input.{programBytes, mostList, listBytes}
+use Rattle.streams.specs.Input.{programBytes, mostList, listBytes}
 use Rattle.lines.proofs.LongInput.{said-too}
 use Rattle.converting.specs.declared.Lengths.{Lengths}
 use Rattle.converting.specs.Converting.{toCard, toList}

@@ -18,7 +18,7 @@ use Rattle.importing.specs.Importing.{cardIn, importing}
 use Rattle.importing.proofs.Numbers.{importing-never}
 use Rattle.exporting.specs.Exporting.{listOf, exporting, listRoom}
 use Rattle.exporting.proofs.ExportRoom.{exporting-never}
-use Rattle.input.specs.Input.{mostList}
+use Rattle.streams.specs.Input.{mostList}
 use Rattle.sequence.specs.Verdict.{sole, several, noBuild, Outcome, settled, unsettled}
 use Rattle.fasta.specs.Record.{isName}
 use Rattle.builds.specs.Building.{Says, refuses}

@@ -22,7 +22,7 @@ use Rattle.layout.specs.Layout.{sizeOf}
 use Rattle.text.specs.Text.{ascii, decimal, refusalLine, Printed}
 use Rattle.importing.specs.Importing.{cardIn, importing}
 use Rattle.exporting.specs.Exporting.{listOf, exporting, listRoom}
-use Rattle.input.specs.Input.{mostList}
+use Rattle.streams.specs.Input.{mostList}
 use Rattle.converting.specs.declared.Lengths.{Lengths}
 
 pub record Streams : Type 0 where

@@ -3,7 +3,7 @@ ghost use Rattle.layout.specs.Bounds.{mostEntries};
 ghost use Rattle.text.specs.Putting.{Put};
 ghost use Rattle.converting.specs.Converting.{tooLong, toCard, Converted};
 use crate::Lengths;
-use input::list::MOST;
+use streams::list::MOST;
 use writer::Written;
 
 // That a list is longer than the program takes.

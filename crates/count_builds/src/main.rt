@@ -3,10 +3,20 @@ use libc::STDOUT_FILENO;
 use lines::count::LINE;
 
 fn main() {
-    let card = input::read();
+    if !streams::called_with(0, b"usage: count_builds < CARD\n") {
+        return;
+    }
+    let card = streams::card::read(b"count_builds: standard input");
+    if !card.whole {
+        return;
+    }
     let bytes = card.bytes;
     let n = card.n;
     let mut out = [0u8; LINE];
     let printed = lines::count::report(&bytes[..n], &mut out);
-    io::write_all(STDOUT_FILENO, &out[..printed]);
+    streams::write(
+        STDOUT_FILENO,
+        &out[..printed],
+        b"count_builds: standard output",
+    );
 }

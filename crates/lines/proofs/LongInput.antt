@@ -18,7 +18,7 @@ use Rattle.narrow.proofs.TestLaws as narrowing
 use Rattle.counting.specs.Counting.{OfCard}
 use Rattle.counting.specs.Counting as counting
 use Rattle.counting.proofs.CountingLaws.{tests-refuse}
-use Rattle.input.specs.Input.{programBytes}
+use Rattle.streams.specs.Input.{programBytes}
 use Rattle.lines.specs.Lines.{lettersRoom, linesOf, ReportsBy, Reports}
 use Rattle.lines.specs.SettleLines.{SettleReports}
 use Rattle.lines.specs.CountLine.{CountReports}

@@ -1,16 +1,23 @@
 // The program `list2card`: reads a probe list from standard input, and writes its card, or on standard error why there is none.
-use input::list::BYTES;
 use libc::STDERR_FILENO;
 use libc::STDOUT_FILENO;
+use streams::list::BYTES;
 
 fn main() {
+    if !streams::called_with(0, b"usage: list2card < LIST > CARD\n") {
+        return;
+    }
     let mut list = [0u8; BYTES];
-    let n = input::list::read(&mut list);
+    let given = streams::list::read(&mut list, b"list2card: standard input");
+    if !given.whole {
+        return;
+    }
+    let n = given.n;
     let mut out = [0u8; layout::LONGEST];
     let mut err = [0u8; converting::LINE];
     let written = converting::to_card::convert(&list[..n], &mut out, &mut err);
     let output = written.output;
     let errors = written.errors;
-    io::write_all(STDOUT_FILENO, &out[..output]);
+    streams::write(STDOUT_FILENO, &out[..output], b"list2card: standard output");
     io::write_all(STDERR_FILENO, &err[..errors]);
 }

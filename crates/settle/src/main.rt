@@ -3,10 +3,16 @@ use libc::STDOUT_FILENO;
 use lines::LINES;
 
 fn main() {
-    let card = input::read();
+    if !streams::called_with(0, b"usage: settle < CARD\n") {
+        return;
+    }
+    let card = streams::card::read(b"settle: standard input");
+    if !card.whole {
+        return;
+    }
     let bytes = card.bytes;
     let n = card.n;
     let mut out = [0u8; LINES];
     let printed = lines::settle::report(&bytes[..n], &mut out);
-    io::write_all(STDOUT_FILENO, &out[..printed]);
+    streams::write(STDOUT_FILENO, &out[..printed], b"settle: standard output");
 }

@@ -6,14 +6,33 @@ use Rattle.text.proofs.PrintedLaws.{printed-fits}
 use Rattle.build.proofs.main.Statement.{statement}
 use Rattle.build.proofs.main.Tie as tie
 
+-- the card was read
+abbrev card-read : tie.After-bytes2 → tie.After-read
+card-read c = c .before .before .before .before
+
+slice-aggregate-called-with : tie.Need-slice-aggregate-called-with
+slice-aggregate-called-with c = search needs
+
+called-with-requires : tie.Need-called-with-requires
+called-with-requires c κs = search needs
+
+returns : tie.Need-returns
+returns c = search needs
+
+slice-aggregate-read : tie.Need-slice-aggregate-read
+slice-aggregate-read c = search needs
+
 read-requires : tie.Need-read-requires
 read-requires c κs = search needs
+
+returns-2 : tie.Need-returns-2
+returns-2 c = search needs
 
 array-share-prefix-bytes : tie.Need-array-share-prefix-bytes
 array-share-prefix-bytes c = search needs
 
 slice-aggregate-report : tie.Need-slice-aggregate-report
-slice-aggregate-report c = sym (length-take-le _ _ (c .before .before .read .ensures .1))
+slice-aggregate-report c = sym (length-take-le _ _ (card-read c .read .ensures .1))
 
 report-requires : tie.Need-report-requires
 report-requires c κs = search needs
@@ -21,24 +40,33 @@ report-requires c κs = search needs
 array-share-prefix-out : tie.Need-array-share-prefix-out
 array-share-prefix-out c = printed-fits (c .report .ensures)
 
-slice-aggregate-write-all : tie.Need-slice-aggregate-write-all
-slice-aggregate-write-all c = sym (length-take-le _ _ (printed-fits (c .before .report .ensures)))
+slice-aggregate-write : tie.Need-slice-aggregate-write
+slice-aggregate-write c = sym (length-take-le _ _ (printed-fits (c .before .report .ensures)))
 
-write-all-requires : tie.Need-write-all-requires
-write-all-requires c κs = search needs
+slice-aggregate-write-2 : tie.Need-slice-aggregate-write-2
+slice-aggregate-write-2 c = search needs
 
-returns : tie.Need-returns
-returns c = search needs
+write-requires : tie.Need-write-requires
+write-requires c κs = search needs
+
+returns-3 : tie.Need-returns-3
+returns-3 c = search needs
 
 pub main-spec : {M : Type 1} → statement M
 main-spec =
     tie.close
     (tie.spec
+    slice-aggregate-called-with
+    called-with-requires
+    returns
+    slice-aggregate-read
     read-requires
+    returns-2
     array-share-prefix-bytes
     slice-aggregate-report
     report-requires
     array-share-prefix-out
-    slice-aggregate-write-all
-    write-all-requires
-    returns)
+    slice-aggregate-write
+    slice-aggregate-write-2
+    write-requires
+    returns-3)

@@ -1,5 +1,5 @@
--- `main` is safe: the card and the name are parts of what was read, and what is written on each stream is a part of its buffer
--- (`printed-fits`). Assumes nothing.
+-- `main` is safe: the card and the name are parts of what was read, and what is written on each stream is a part of its buffer (`printed-fits`). Assumes
+-- nothing.
 use mathlib.Core.Path.{sym}
 use lib.Seq.{length-take-le}
 use borrow.Author.Needs.{needs}
@@ -7,27 +7,49 @@ use Rattle.text.proofs.PrintedLaws.{printed-fits}
 use Rattle.card2fasta.proofs.main.Statement.{statement}
 use Rattle.card2fasta.proofs.main.Tie as tie
 
--- the name was given, and the card read before it
-abbrev named : tie.After-bytes2 → tie.After-given-name
-named c = c .before .before
+-- the card was read
+abbrev card-read : tie.After-bytes2 → tie.After-read
+card-read c = c .before .before .before .before .before .before .before
+
+-- what is written was made, before it was written on standard output
+abbrev made : tie.After-write → tie.After-convert
+made c = c .before .before .before
+
+slice-aggregate-called-with : tie.Need-slice-aggregate-called-with
+slice-aggregate-called-with c = search needs
+
+called-with-requires : tie.Need-called-with-requires
+called-with-requires c κs = search needs
+
+returns : tie.Need-returns
+returns c = search needs
+
+slice-aggregate-read : tie.Need-slice-aggregate-read
+slice-aggregate-read c = search needs
 
 read-requires : tie.Need-read-requires
 read-requires c κs = search needs
 
-given-name-requires : tie.Need-given-name-requires
-given-name-requires c κs = search needs
+returns-2 : tie.Need-returns-2
+returns-2 c = search needs
+
+slice-aggregate-arg : tie.Need-slice-aggregate-arg
+slice-aggregate-arg c = search needs
+
+arg-requires : tie.Need-arg-requires
+arg-requires c κs = search needs
 
 array-share-prefix-bytes : tie.Need-array-share-prefix-bytes
 array-share-prefix-bytes c = search needs
 
 slice-aggregate-convert : tie.Need-slice-aggregate-convert
-slice-aggregate-convert c = sym (length-take-le _ _ (named c .before .before .read .ensures .1))
+slice-aggregate-convert c = sym (length-take-le _ _ (card-read c .read .ensures .1))
 
 array-share-prefix-name : tie.Need-array-share-prefix-name
 array-share-prefix-name c = search needs
 
 slice-aggregate-convert-2 : tie.Need-slice-aggregate-convert-2
-slice-aggregate-convert-2 c = sym (length-take-le _ _ (named (c .before) .given-name .ensures))
+slice-aggregate-convert-2 c = search needs
 
 convert-requires : tie.Need-convert-requires
 convert-requires c κs = search needs
@@ -35,40 +57,49 @@ convert-requires c κs = search needs
 array-share-prefix-out : tie.Need-array-share-prefix-out
 array-share-prefix-out c = printed-fits (c .convert .ensures .written .on-output)
 
+slice-aggregate-write : tie.Need-slice-aggregate-write
+slice-aggregate-write c = sym (length-take-le _ _ (printed-fits (c .before .convert .ensures .written .on-output)))
+
+slice-aggregate-write-2 : tie.Need-slice-aggregate-write-2
+slice-aggregate-write-2 c = search needs
+
+write-requires : tie.Need-write-requires
+write-requires c κs = search needs
+
+array-share-prefix-err : tie.Need-array-share-prefix-err
+array-share-prefix-err c = printed-fits (made c .convert .ensures .written .on-errors)
+
 slice-aggregate-write-all : tie.Need-slice-aggregate-write-all
-slice-aggregate-write-all c = sym (length-take-le _ _ (printed-fits (c .before .convert .ensures .written .on-output)))
+slice-aggregate-write-all c = sym (length-take-le _ _ (printed-fits (made (c .before) .convert .ensures .written .on-errors)))
 
 write-all-requires : tie.Need-write-all-requires
 write-all-requires c κs = search needs
 
-array-share-prefix-err : tie.Need-array-share-prefix-err
-array-share-prefix-err c = printed-fits (c .before .before .convert .ensures .written .on-errors)
-
-slice-aggregate-write-all-2 : tie.Need-slice-aggregate-write-all-2
-slice-aggregate-write-all-2 c =
-    sym (length-take-le _ _ (printed-fits (c .before .before .before .convert .ensures .written .on-errors)))
-
-write-all-requires-2 : tie.Need-write-all-requires-2
-write-all-requires-2 c κs = search needs
-
-returns : tie.Need-returns
-returns c = search needs
+returns-3 : tie.Need-returns-3
+returns-3 c = search needs
 
 pub main-spec : {M : Type 1} → statement M
 main-spec =
     tie.close
     (tie.spec
+    slice-aggregate-called-with
+    called-with-requires
+    returns
+    slice-aggregate-read
     read-requires
-    given-name-requires
+    returns-2
+    slice-aggregate-arg
+    arg-requires
     array-share-prefix-bytes
     slice-aggregate-convert
     array-share-prefix-name
     slice-aggregate-convert-2
     convert-requires
     array-share-prefix-out
+    slice-aggregate-write
+    slice-aggregate-write-2
+    write-requires
+    array-share-prefix-err
     slice-aggregate-write-all
     write-all-requires
-    array-share-prefix-err
-    slice-aggregate-write-all-2
-    write-all-requires-2
-    returns)
+    returns-3)

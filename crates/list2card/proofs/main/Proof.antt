@@ -7,14 +7,37 @@ use Rattle.text.proofs.PrintedLaws.{printed-fits}
 use Rattle.list2card.proofs.main.Statement.{statement}
 use Rattle.list2card.proofs.main.Tie as tie
 
+-- the list was read
+abbrev list-read : tie.After-list2 → tie.After-read
+list-read c = c .before .before .before
+
+-- what is written was made, before it was written on standard output
+abbrev made : tie.After-write → tie.After-convert
+made c = c .before .before .before
+
+slice-aggregate-called-with : tie.Need-slice-aggregate-called-with
+slice-aggregate-called-with c = search needs
+
+called-with-requires : tie.Need-called-with-requires
+called-with-requires c κs = search needs
+
+returns : tie.Need-returns
+returns c = search needs
+
+slice-aggregate-read : tie.Need-slice-aggregate-read
+slice-aggregate-read c = search needs
+
 read-requires : tie.Need-read-requires
 read-requires c κs = search needs
+
+returns-2 : tie.Need-returns-2
+returns-2 c = search needs
 
 array-share-prefix-list : tie.Need-array-share-prefix-list
 array-share-prefix-list c = search needs
 
 slice-aggregate-convert : tie.Need-slice-aggregate-convert
-slice-aggregate-convert c = sym (length-take-le _ _ (c .before .read .ensures .1))
+slice-aggregate-convert c = sym (length-take-le _ _ (list-read c .read .ensures .1))
 
 convert-requires : tie.Need-convert-requires
 convert-requires c κs = search needs
@@ -22,36 +45,45 @@ convert-requires c κs = search needs
 array-share-prefix-out : tie.Need-array-share-prefix-out
 array-share-prefix-out c = printed-fits (c .convert .ensures .on-output)
 
+slice-aggregate-write : tie.Need-slice-aggregate-write
+slice-aggregate-write c = sym (length-take-le _ _ (printed-fits (c .before .convert .ensures .on-output)))
+
+slice-aggregate-write-2 : tie.Need-slice-aggregate-write-2
+slice-aggregate-write-2 c = search needs
+
+write-requires : tie.Need-write-requires
+write-requires c κs = search needs
+
+array-share-prefix-err : tie.Need-array-share-prefix-err
+array-share-prefix-err c = printed-fits (made c .convert .ensures .on-errors)
+
 slice-aggregate-write-all : tie.Need-slice-aggregate-write-all
-slice-aggregate-write-all c = sym (length-take-le _ _ (printed-fits (c .before .convert .ensures .on-output)))
+slice-aggregate-write-all c = sym (length-take-le _ _ (printed-fits (made (c .before) .convert .ensures .on-errors)))
 
 write-all-requires : tie.Need-write-all-requires
 write-all-requires c κs = search needs
 
-array-share-prefix-err : tie.Need-array-share-prefix-err
-array-share-prefix-err c = printed-fits (c .before .before .convert .ensures .on-errors)
-
-slice-aggregate-write-all-2 : tie.Need-slice-aggregate-write-all-2
-slice-aggregate-write-all-2 c = sym (length-take-le _ _ (printed-fits (c .before .before .before .convert .ensures .on-errors)))
-
-write-all-requires-2 : tie.Need-write-all-requires-2
-write-all-requires-2 c κs = search needs
-
-returns : tie.Need-returns
-returns c = search needs
+returns-3 : tie.Need-returns-3
+returns-3 c = search needs
 
 pub main-spec : {M : Type 1} → statement M
 main-spec =
     tie.close
     (tie.spec
+    slice-aggregate-called-with
+    called-with-requires
+    returns
+    slice-aggregate-read
     read-requires
+    returns-2
     array-share-prefix-list
     slice-aggregate-convert
     convert-requires
     array-share-prefix-out
+    slice-aggregate-write
+    slice-aggregate-write-2
+    write-requires
+    array-share-prefix-err
     slice-aggregate-write-all
     write-all-requires
-    array-share-prefix-err
-    slice-aggregate-write-all-2
-    write-all-requires-2
-    returns)
+    returns-3)

@@ -3,7 +3,7 @@ use native.Mathlib.Omega.{arith}
 use borrow.Author.Needs.{needs}
 use Rattle.text.proofs.DecimalLaws.{decimal-few}
 use Rattle.text.proofs.PuttingLaws.{length-put, put-then}
-use Rattle.input.specs.Input.{mostList}
+use Rattle.streams.specs.Input.{mostList}
 use Rattle.converting.specs.Converting.{tooLong}
 use Rattle.converting.proofs.to_card.put_too_long.Statement.{statement}
 use Rattle.converting.proofs.to_card.put_too_long.Tie as tie

@@ -1,6 +1,6 @@
--- How much of standard input a program reads, where all of it is a card or a list. `limit` is the most entries that a card may have.
---   programBytes limit       == the most bytes that it reads of a card
---   mostList, listBytes      == the most bytes of a list that it takes, and that it reads
+-- How much of standard input a program takes, where all of it is a card or a list. `limit` is the most entries that a card may have.
+--   programBytes limit       == the most bytes that it takes of a card
+--   mostList, listBytes      == the most bytes of a list that it answers, and that it takes
 -- Assumes nothing.
 use Prim.Native.Nat.{ℕ, _+_}
 use Rattle.layout.specs.Layout.{sizeOf}

@@ -1,0 +1,2 @@
+-- `FillLaws` is what a read that gave something comes to.
+pub mod FillLaws

@@ -1,0 +1,2 @@
+-- `Input` is how much of standard input a program takes.
+pub mod Input

@@ -1,0 +1,27 @@
+// The card that a program is given: all of standard input, or as much of it as an answer can depend on.
+ghost use mathlib.Core.Path.{_≡_};
+ghost use Prim.Native.Nat.{_≤_};
+ghost use lib.ListN.{length};
+ghost use Rattle.layout.specs.Bounds.{mostEntries};
+ghost use Rattle.streams.specs.Input.{programBytes};
+
+// One byte more than the longest card has.
+const BYTES: usize = layout::LONGEST + 1;
+
+// The first n of the bytes are what was read, and whether no read failed.
+pub struct Input {
+    pub bytes: [u8; BYTES],
+    pub n: usize,
+    pub whole: bool,
+}
+
+// Reads standard input. Where a read fails, says on standard error of what, and why.
+pub fn read(what: &[u8]) -> Input
+    ensures { λ r. ⌜ (length (r .bytes) ≡ programBytes mostEntries) × (r .n ≤ length (r .bytes)) ⌝ }
+{
+    let mut bytes = [0u8; BYTES];
+    let given = crate::fill(&mut bytes, what);
+    let n = given.n;
+    let whole = given.whole;
+    Input { bytes, n, whole }
+}
