@@ -1,7 +1,7 @@
 /* An example of calling the library: reads one card, from the file that is named or else from standard input, and writes on standard output
  * what the program `build` writes. On standard error it says in words what a fitter should make of it.
  *
- *   cc -std=c99 -I include example/build.c FOLDER/libfirmware.a -o example-build
+ *   cc -std=c99 -I include example/build.c target/lib/libbelfrymist.a -o example-build
  *   ./example-build samples/s1.card
  */
 #include <stdio.h>
@@ -10,25 +10,23 @@
 
 enum { BUDGET = 1000000 };
 
-/* What each refusal says, by its number, and what its place counts. */
+/* What each refusal of admitting and building says, by its number, and what its place counts. */
 static const struct {
     const char *says;
     const char *counts;
 } REFUSALS[] = {
     [BELFRYMIST_REFUSED_SHORT] = {"the card has fewer than 512 bytes", NULL},
-    [BELFRYMIST_REFUSED_CHECK] = {"a check byte differs", "block"},
-    [BELFRYMIST_REFUSED_INDEX] = {"a block stands at the wrong place", "block"},
+    [BELFRYMIST_REFUSED_CHECK] = {"a check byte of a block differs", "block"},
+    [BELFRYMIST_REFUSED_INDEX] = {"a block's index is not its own", "block"},
     [BELFRYMIST_REFUSED_FORM] = {"the form is not 1", NULL},
-    [BELFRYMIST_REFUSED_KIND] = {"the kind is neither pair nor span", NULL},
-    [BELFRYMIST_REFUSED_WORD_LENGTH] = {"words have 2 to 12 letters", NULL},
-    [BELFRYMIST_REFUSED_COUNT] = {"a card has 1 to 504 entries", NULL},
+    [BELFRYMIST_REFUSED_KIND] = {"the kind is neither pair nor span, or not taken here", NULL},
+    [BELFRYMIST_REFUSED_WORD_LENGTH] = {"words have fewer than 2 or more than 12 letters", NULL},
+    [BELFRYMIST_REFUSED_COUNT] = {"there are fewer than 1 or more than 504 entries", NULL},
     [BELFRYMIST_REFUSED_SPARE] = {"a byte that must be zero is not", "block"},
     [BELFRYMIST_REFUSED_SIZE] = {"the card is cut short, or something follows it", NULL},
     [BELFRYMIST_REFUSED_WORD] = {"a word has more letters than the card's words", "entry"},
-    [BELFRYMIST_REFUSED_PLACES] = {"the places are out of order, too wide, or beyond the card", "entry"},
-    [BELFRYMIST_REFUSED_ROOM] = {"the output is too short", NULL},
-    [BELFRYMIST_REFUSED_LISTS] = {"the three lists differ in length", NULL},
-    [BELFRYMIST_REFUSED_ABSENT] = {"there is no such block or entry", NULL},
+    [BELFRYMIST_REFUSED_PLACES] = {"places out of order, beyond the card, or over 8 wide", "entry"},
+    [BELFRYMIST_REFUSED_ROOM] = {"an output is too short", NULL},
 };
 
 static int refused(size_t number, size_t place)
@@ -71,24 +69,11 @@ static int built(const belfrymist_build_answer *answer, const uint8_t *letters)
 static uint8_t card[BELFRYMIST_MOST_CARD + 1];
 static uint8_t letters[BELFRYMIST_MOST_SEQUENCE];
 
-int main(int count, char **words)
+/* Says of the first `length` bytes of the card what `build` says. */
+static int told(size_t length)
 {
-    FILE *file = count > 1 ? fopen(words[1], "rb") : stdin;
-    size_t length;
-    belfrymist_admit_answer admitted;
     belfrymist_build_answer answer;
-
-    if (count > 2 || file == NULL) {
-        fprintf(stderr, "usage: build [CARD]\n");
-        return 2;
-    }
-    length = fread(card, 1, sizeof card, file);
-    if (ferror(file)) {
-        fprintf(stderr, "the card cannot be read\n");
-        return 2;
-    }
-
-    admitted = belfrymist_admit(card, length);
+    belfrymist_admit_answer admitted = belfrymist_admit(card, length);
     if (admitted.number != 0)
         return refused(admitted.number, admitted.place);
     printf("CARD %s %zu %zu\n", admitted.kind == BELFRYMIST_PAIR ? "pair" : "span", admitted.l, admitted.m);
@@ -98,4 +83,29 @@ int main(int count, char **words)
     if (answer.number != 0)
         return refused(answer.number, answer.place);
     return built(&answer, letters);
+}
+
+static int failed(const char *what)
+{
+    perror(what);
+    return 2;
+}
+
+int main(int count, char **words)
+{
+    FILE *file = count == 2 ? fopen(words[1], "rb") : stdin;
+    size_t length;
+    int status;
+
+    if (count > 2) {
+        fprintf(stderr, "usage: example-build [CARD]\n");
+        return 2;
+    }
+    if (file == NULL)
+        return failed(words[1]);
+    length = fread(card, 1, sizeof card, file);
+    if (ferror(file))
+        return failed("the card");
+    status = told(length);
+    return fflush(stdout) != 0 ? failed("standard output") : status;
 }

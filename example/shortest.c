@@ -1,4 +1,5 @@
-/* Builds the card on standard input: prints verdict and letters. */
+/* Builds the card on standard input: prints the verdict's number and
+ * the letters. */
 #include <stdio.h>
 
 #include <belfrymist.h>
@@ -13,12 +14,10 @@ int main(void)
     belfrymist_build_answer built =
         belfrymist_build(card, length, 1000000, out, sizeof out);
 
-    if (built.number != 0) {
+    if (built.number != 0)
         printf("refused %zu %zu\n", built.number, built.place);
-        return 1;
-    }
-    printf("%zu ", built.verdict);
-    fwrite(out, 1, built.length, stdout);
-    printf("\n");
-    return 0;
+    else
+        printf("%zu %.*s\n",
+               built.verdict, (int)built.length, (char *)out);
+    return ferror(stdin) || fflush(stdout) != 0;
 }

@@ -1,8 +1,11 @@
 /* Spectrum cards: admitting, reading and writing them, building the sequence, settling narrow cards, counting builds, and probe lists; and FASTA
  * records. For firmware, in C99 and in C++.
  *
- * Link libfirmware.a, which `tests/archive FOLDER` writes for x86-64. Each function is proved to meet its contract, which stands over
- * the function of the same name in crates/firmware/src/. This file says the same in words; where the two differ, the contract is right.
+ * Link libbelfrymist.a, by -lbelfrymist: `make` writes it, for x86-64, and `make install` puts it below PREFIX with a file for pkg-config, which looks
+ * for that below /usr/local, or where PKG_CONFIG_PATH says (PREFIX/lib/pkgconfig).
+ *
+ * Each function is proved to meet its contract, which stands over the function of the same name in crates/firmware/src/. Here the same is said in
+ * words; where the two differ, the contract is right.
  *
  * WHAT COMES BACK. Every function answers for every input, and ends. An answer is a struct of numbers, returned by value. `number`, in
  * each struct that has one, is 0 where nothing is refused; otherwise it is one of the refusals below, `place` says where, and every other
@@ -51,8 +54,13 @@ enum {
 };
 
 /* Bytes of stack that a call takes at most: measured on x86-64 over the samples, the largest cards of both kinds and the longest record of a build,
- * and not proved. Building takes about 61,000 bytes on a pair card, and on a span card about 28,300 and 320 more for each entry that it places.
- * Settling takes as much for a small card as for a full one. */
+ * and not proved. Each number is what was measured, rounded up to a multiple of 8,192, for importing of 1,024, and for any other call of 512.
+ * Building takes about 61,000 bytes on a pair card, and on a span card about 28,300 and 320 more for each entry that it places. Settling takes as
+ * much for a small card as for a full one.
+ *
+ * A thread takes more stack than the call that it makes: about 4,400 bytes more, measured on x86-64 with glibc 2.36 and not proved, for what the
+ * thread library keeps there and for the function that the thread begins in. Give a thread 8,192 bytes more than the number here, and the bytes of
+ * the program's thread-local variables, and no less than PTHREAD_STACK_MIN. */
 enum {
     BELFRYMIST_STACK = 196608,          /* belfrymist_build */
     BELFRYMIST_STACK_SETTLING = 90112,  /* belfrymist_settle and belfrymist_settle_lists */
@@ -81,34 +89,33 @@ enum {
     BELFRYMIST_UNSETTLED = 4     /* the budget ended the walk: nothing is known of what fits. It is not "none" */
 };
 
-/* The refusals. Places are blocks or entries, both counted from 0 over the whole card; of 21 a number of letters; from 23 to 26 lines of a list,
- * counted from 1. */
+/* The refusals. Beside each stand what is wrong and what the place counts: blocks and entries from 0 over the whole card, lines from 1. */
 enum {
     BELFRYMIST_REFUSED_SHORT = 1,        /* the card has fewer than 512 bytes; place 0 */
     BELFRYMIST_REFUSED_CHECK = 2,        /* a check byte of a block differs; the block */
-    BELFRYMIST_REFUSED_INDEX = 3,        /* a block's index differs; the block */
+    BELFRYMIST_REFUSED_INDEX = 3,        /* a block's index is not its own; the block */
     BELFRYMIST_REFUSED_FORM = 4,         /* the form is not 1; place 0 */
-    BELFRYMIST_REFUSED_KIND = 5,         /* the kind is neither 1 nor 2; also a span card where builds are counted, and a pair card
-                                            for belfrymist_settle; place 0 */
-    BELFRYMIST_REFUSED_WORD_LENGTH = 6,  /* l is outside 2 to 12; place 0 */
-    BELFRYMIST_REFUSED_COUNT = 7,        /* m is outside 1 to 504; place 0 */
+    BELFRYMIST_REFUSED_KIND = 5,         /* the kind is neither pair nor span, or not taken here; place 0. Only span cards are settled by
+                                            belfrymist_settle, and only pair cards counted by belfrymist_count */
+    BELFRYMIST_REFUSED_WORD_LENGTH = 6,  /* words have fewer than 2 or more than 12 letters; place 0 */
+    BELFRYMIST_REFUSED_COUNT = 7,        /* there are fewer than 1 or more than 504 entries; place 0 */
     BELFRYMIST_REFUSED_SPARE = 8,        /* a byte that must be zero is not; the block */
-    BELFRYMIST_REFUSED_SIZE = 9,         /* the card's bytes are not 512 * (1 + ceil(m / 63)); place 0 */
-    BELFRYMIST_REFUSED_WORD = 10,        /* a word is 4^l or more; the entry */
-    BELFRYMIST_REFUSED_PLACES = 11,      /* places out of order, beyond m - 1, or a span over 8 wide; the entry */
+    BELFRYMIST_REFUSED_SIZE = 9,         /* the card is cut short, or something follows it; place 0. It has 512 * (1 + ceil(m / 63)) bytes */
+    BELFRYMIST_REFUSED_WORD = 10,        /* a word has more letters than the card's words; the entry. Its value is 4^l or more */
+    BELFRYMIST_REFUSED_PLACES = 11,      /* places out of order, beyond the card, or over 8 wide; the entry. The last place is m - 1 */
     BELFRYMIST_REFUSED_ROOM = 12,        /* an output is too short; place 0 */
     BELFRYMIST_REFUSED_LISTS = 13,       /* the three lists differ in length; place 0 */
     BELFRYMIST_REFUSED_ABSENT = 14,      /* there is no such block or entry; place 0 */
-    BELFRYMIST_REFUSED_NAME = 20,        /* no name of 1 to 40 bytes, each from 33 to 126; in a record also no `>` before it or no newline after
-                                            it; place 0 */
-    BELFRYMIST_REFUSED_LETTER = 21,      /* a byte that is none of A, C, G and T, nor in a record a newline; the letters before it. Or no letter
-                                            at all; place 0 */
-    BELFRYMIST_REFUSED_LINE = 22,        /* in a record, a newline is missing or stands elsewhere than the lines have it; place 0 */
-    BELFRYMIST_REFUSED_TEXT = 23,        /* what stands on a line is no word, tab, places and newline, or the list is empty; the line */
+    BELFRYMIST_REFUSED_NAME = 20,        /* no name of 1 to 40 printable characters, or in a record not between `>` and a newline; place 0. Each
+                                            character is a byte from 33 to 126 */
+    BELFRYMIST_REFUSED_LETTER = 21,      /* a byte that is none of A, C, G and T, or no letter at all; the letters before it. In a record a newline is
+                                            no such byte */
+    BELFRYMIST_REFUSED_LINE = 22,        /* in a record a newline is missing, or stands where none belongs; place 0 */
+    BELFRYMIST_REFUSED_TEXT = 23,        /* a line is not a word, a tab, places and a newline, or the list is empty; the line */
     BELFRYMIST_REFUSED_MIXED = 24,       /* a line's mark, comma or hyphen, is not that of an earlier line; the line */
     BELFRYMIST_REFUSED_UNEVEN = 25,      /* a word has not as many letters as the first; the line */
-    BELFRYMIST_REFUSED_ZERO = 26,        /* place 0, where places count from 1; the line */
-    BELFRYMIST_REFUSED_WIDER = 30        /* for belfrymist_settle, a span is over 4 wide; the first such entry */
+    BELFRYMIST_REFUSED_ZERO = 26,        /* a place is 0, where places count from 1; the line */
+    BELFRYMIST_REFUSED_WIDER = 30        /* a span is over 4 wide; the entry. It is the first such */
 };
 
 typedef struct {
@@ -153,9 +160,9 @@ typedef struct {
 
 typedef struct {
     size_t number, place;
-    size_t verdict;
+    size_t verdict;    /* one of the verdicts */
     size_t length;     /* letters of the sequence that was given, m + l - 1; 0 for none and unsettled */
-    size_t placements; /* that the walk took; the budget, for unsettled; 0 on a pair card, and always from belfrymist_settle */
+    size_t placements; /* that the walk took; the budget, for unsettled; 0 on a pair card, and where a card is settled without a budget */
 } belfrymist_build_answer;
 
 typedef struct {
@@ -179,7 +186,7 @@ belfrymist_entry_answer belfrymist_entry(const uint8_t *card, size_t card_len, s
 
 /* A step of a reading head that stands at an entry, from 0: the entry, and in `next` the head moved one on. The card is admitted first.
  *
- * At m or beyond it is the end: every field is 0, so that shape BELFRYMIST_NO_ENTRY with number 0 tells it.
+ * At m or beyond it is the end: every field is 0, `next` too, so that shape BELFRYMIST_NO_ENTRY with number 0 tells it.
  *
  * Refuses: the reader's refusals, never 14. */
 belfrymist_step_answer belfrymist_step(const uint8_t *card, size_t card_len, size_t at);
@@ -208,7 +215,7 @@ belfrymist_write_answer belfrymist_write(size_t kind, size_t l, const uint32_t *
  * untouched. None and unsettled: no byte of out is touched, and length is 0.
  *
  * The budget bounds the placements of the walk on a span card, and with them the time; a pair card is always settled, with 0
- * placements. A settled answer is the same under every larger budget.
+ * placements. A settled answer is the same under every larger budget. The program `build` takes 1,000,000.
  *
  * Refuses: the reader's refusals, then 12 where out has fewer than m + l - 1 bytes, whichever verdict would follow.
  *
@@ -228,7 +235,8 @@ belfrymist_build_answer belfrymist_build(const uint8_t *card, size_t card_len, u
  * BELFRYMIST_MOST_SEQUENCE bytes are room for every card. */
 belfrymist_build_answer belfrymist_settle(const uint8_t *card, size_t card_len, uint8_t *out, size_t out_len);
 
-/* The same of the card of this kind and l whose entry i is words[i], ones[i], twos[i], as belfrymist_write takes them.
+/* What belfrymist_settle answers and writes, of the card of this kind and l whose entry i is words[i], ones[i], twos[i], as belfrymist_write takes
+ * them.
  *
  * Refuses, the first of these that holds: 5 where the kind is neither 1 nor 2; 6; 13; 7; each entry in turn, 10 before 11; 12; then 5 where the
  * kind is pair; then 30. */
@@ -243,7 +251,7 @@ belfrymist_build_answer belfrymist_settle_lists(size_t kind, size_t l, const uin
  * Refuses: the reader's refusals, then 5 on a span card, of which no number is given. */
 belfrymist_count_answer belfrymist_count(const uint8_t *card, size_t card_len);
 
-/* The same of the card of this kind and l whose entry i is words[i], ones[i], twos[i], as belfrymist_write takes them.
+/* What belfrymist_count answers, of the card of this kind and l whose entry i is words[i], ones[i], twos[i], as belfrymist_write takes them.
  *
  * Refuses, the first of these that holds: 5 where the kind is neither 1 nor 2; 6; 13; 7; each entry in turn, 10 before 11; then 5 where the
  * kind is span. */

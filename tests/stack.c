@@ -1,7 +1,10 @@
-/* stack CARD...: measures the stack that calls take, and holds it to what include/belfrymist.h says. Each call runs on a stack of its own
- * that was filled with one byte beforehand; what it took reaches down to the lowest byte that differs afterwards. The walk goes one level
- * deeper with every entry that it places, so that a full card with a build takes the most. */
+/* stack CARD...: measures the stack that calls take, and holds what include/belfrymist.h says to it: each number is the most that was measured,
+ * rounded up to a whole number of steps. A call runs on a stack of its own that was filled with one byte beforehand; what it took reaches down to the
+ * lowest byte that differs afterwards. The walk goes one level deeper with every entry that it places, so that a full card with a build takes the
+ * most. Each call also runs in a thread, whose stack is as large as the header says. */
 #define _GNU_SOURCE
+#include <limits.h>
+#include <pthread.h>
 #include <stdio.h>
 #include <stdlib.h>
 #include <string.h>
@@ -9,7 +12,7 @@
 
 #include "belfrymist.h"
 
-enum { ROOM = 1 << 20, FILL = 0x5C };
+enum { ROOM = 1 << 20, FILL = 0x5C, FOR_A_THREAD = 8192 };
 
 static uint8_t room[ROOM];
 static ucontext_t here, there;
@@ -30,9 +33,18 @@ static void on_own_stack(void)
     call();
 }
 
+/* The lowest byte that is no longer as it was filled. */
+static const uint8_t *lowest(void)
+{
+    const uint8_t *at = room;
+    while (at < room + sizeof room && *at == FILL)
+        at++;
+    return at;
+}
+
+/* The bytes of stack that a call takes. */
 static size_t taken(void (*what)(void))
 {
-    size_t i = 0;
     memset(room, FILL, sizeof room);
     call = what;
     getcontext(&there);
@@ -41,9 +53,28 @@ static size_t taken(void (*what)(void))
     there.uc_link = &here;
     makecontext(&there, on_own_stack, 0);
     swapcontext(&here, &there);
-    while (i < sizeof room && room[i] == FILL)
-        i++;
-    return (size_t)(lowest_own - (room + i));
+    return (size_t)(lowest_own - lowest());
+}
+
+static void *in_a_thread(void *nothing)
+{
+    call();
+    return nothing;
+}
+
+/* The bytes of its stack that a thread takes which makes the call and nothing else, where for the call so many are stated. */
+static size_t taken_in_a_thread(void (*what)(void), size_t stated)
+{
+    size_t least = (size_t)PTHREAD_STACK_MIN, size = stated + FOR_A_THREAD > least ? stated + FOR_A_THREAD : least;
+    pthread_attr_t attributes;
+    pthread_t thread;
+    memset(room, FILL, sizeof room);
+    call = what;
+    if (pthread_attr_init(&attributes) != 0 || pthread_attr_setstack(&attributes, room + sizeof room - size, size) != 0 ||
+        pthread_create(&thread, &attributes, in_a_thread, NULL) != 0 || pthread_join(thread, NULL) != 0)
+        exit(5);
+    pthread_attr_destroy(&attributes);
+    return (size_t)(room + sizeof room - lowest());
 }
 
 static void admit(void) { seen = belfrymist_admit(card, length).m; }
@@ -78,32 +109,50 @@ static void take_up(void)
     }
 }
 
-static size_t most_reading, most_building, most_settling, most_counting, most_importing;
+/* Calls for which the header states one number, the step of that number, and the most that they took, alone and in a thread. */
+static struct group {
+    const char *what;
+    size_t stated, step;
+    void (*calls[10])(void);
+    size_t most, most_in_a_thread;
+} groups[] = {
+    {"to build", BELFRYMIST_STACK, 8192, {build}, 0, 0},
+    {"to settle", BELFRYMIST_STACK_SETTLING, 8192, {settle_card, settle_lists}, 0, 0},
+    {"to count", BELFRYMIST_STACK_COUNTING, 8192, {count_card, count_lists}, 0, 0},
+    {"for other calls", BELFRYMIST_STACK_READING, 512,
+     {admit, entry, step, companion, fetch, written, export_card, write_record, read_record}, 0, 0},
+    {"to import", BELFRYMIST_STACK_IMPORTING, 1024, {import_list}, 0, 0},
+};
+enum { GROUPS = sizeof groups / sizeof *groups };
 
-/* The most that any of the calls takes, or what was the most before. */
-static size_t most_of(size_t most, void (*const *calls)(void), size_t count)
+static size_t larger(size_t one, size_t other) { return one > other ? one : other; }
+
+static void measure_group(struct group *group)
 {
     size_t i;
-    for (i = 0; i < count; i++) {
-        size_t n = taken(calls[i]);
-        most = n > most ? n : most;
+    for (i = 0; group->calls[i] != NULL; i++) {
+        group->most = larger(group->most, taken(group->calls[i]));
+        group->most_in_a_thread = larger(group->most_in_a_thread, taken_in_a_thread(group->calls[i], group->stated));
     }
-    return most;
 }
 
+/* Says what the calls took, and whether the header states that, rounded up, and whether in a thread no more than stated comes to it. */
+static int is_held(const struct group *group)
+{
+    size_t steps = (group->most + group->step - 1) / group->step;
+    printf("stack: at most %zu bytes %s, and %zu in a thread; the header says %zu\n", group->most, group->what, group->most_in_a_thread,
+           group->stated);
+    return group->stated == steps * group->step && group->most_in_a_thread <= group->most + FOR_A_THREAD;
+}
+
+/* Measures the calls on the card: building first, and the others where the card is admitted. */
 static void measure(void)
 {
-    static void (*const building[])(void) = {build}, (*const settling[])(void) = {settle_card, settle_lists};
-    static void (*const counting[])(void) = {count_card, count_lists}, (*const importing[])(void) = {import_list};
-    static void (*const reading[])(void) = {admit, entry, step, companion, fetch, written, export_card, write_record, read_record};
-    most_building = most_of(most_building, building, 1);
+    size_t i;
+    measure_group(&groups[0]);
     take_up();
-    if (m == 0)
-        return;
-    most_settling = most_of(most_settling, settling, 2);
-    most_counting = most_of(most_counting, counting, 2);
-    most_reading = most_of(most_reading, reading, sizeof reading / sizeof *reading);
-    most_importing = most_of(most_importing, importing, 1);
+    for (i = 1; m != 0 && i < GROUPS; i++)
+        measure_group(&groups[i]);
 }
 
 /* A full pair card: the words of A and C by turns, each at its own place or two places on. */
@@ -160,7 +209,7 @@ static int take_up_remembered(void)
 
 int main(int count, char **names)
 {
-    int i;
+    int i, held = 1;
     memset(name, 'n', sizeof name);
     memset(letters, 'A', sizeof letters);
     for (i = 1; i < count; i++) {
@@ -180,10 +229,7 @@ int main(int count, char **names)
     measure();
     if (record_length != sizeof record)
         return 4;
-    printf("stack: at most %zu bytes to build, %zu to settle, %zu to count, %zu to import and %zu for other calls; the header says %d, %d, %d, %d "
-           "and %d\n",
-           most_building, most_settling, most_counting, most_importing, most_reading, BELFRYMIST_STACK, BELFRYMIST_STACK_SETTLING,
-           BELFRYMIST_STACK_COUNTING, BELFRYMIST_STACK_IMPORTING, BELFRYMIST_STACK_READING);
-    return !(most_building <= BELFRYMIST_STACK && most_settling <= BELFRYMIST_STACK_SETTLING && most_counting <= BELFRYMIST_STACK_COUNTING &&
-             most_importing <= BELFRYMIST_STACK_IMPORTING && most_reading <= BELFRYMIST_STACK_READING);
+    for (i = 0; i < GROUPS; i++)
+        held &= is_held(&groups[i]);
+    return !held;
 }

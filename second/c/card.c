@@ -4,7 +4,7 @@
 
 #include "card.h"
 
-#include "numbers.h"
+#include "numbers.h" /* which beside/build.rs writes */
 
 #include <stdbool.h>
 #include <string.h>

@@ -3,7 +3,7 @@
 #ifndef PLAIN_WALK_H
 #define PLAIN_WALK_H
 
-#include "numbers.h"
+#include "numbers.h" /* which beside/build.rs writes */
 
 #include <stddef.h>
 #include <stdint.h>

@@ -77,9 +77,10 @@ impl<'a> Sound<'a> {
             ..
         } = self.0;
         let m = words.len();
-        // SAFETY: the lists are sound, so that each has m elements, m is at most
-        // 504, each span lies below m and is at most eight wide; the tables are
-        // lent to the call alone and laid out as C declares them.
+        // SAFETY: the lists are sound, so that each has m elements, each span lies
+        // below m, and m and the width of each span are within the numbers that
+        // the C code is compiled with; the tables are lent to the call alone and
+        // laid out as C declares them.
         unsafe {
             c_prepare(*l, m, words.as_ptr(), ones.as_ptr(), twos.as_ptr(), tables);
         }
