@@ -22,8 +22,8 @@ abbrev pub Kind : ℕ
 Kind = 5
 
 -- "l outside 2–12"
-abbrev pub Length : ℕ
-Length = 6
+abbrev pub WordLength : ℕ
+WordLength = 6
 
 -- "m outside 1–504"
 abbrev pub Count : ℕ

@@ -22,7 +22,7 @@ pub const FORM: usize = 4;
 
 pub const KIND: usize = 5;
 
-pub const LENGTH: usize = 6;
+pub const WORD_LENGTH: usize = 6;
 
 pub const COUNT: usize = 7;
 

@@ -4,7 +4,7 @@ use mathlib.Core.Path.{_≡_, refl}
 use mathlib.Core.List.{List, [], _∷_, _++_, map}
 use Prim.Native.Nat.{ℕ}
 use lib.ListN.{replicate}
-use Rattle.answers.specs.Numbers.{Short, Check, Form, Kind, Length, Count, Size, Absent}
+use Rattle.answers.specs.Numbers.{Short, Check, Form, Kind, WordLength, Count, Size, Absent}
 use Rattle.answers.specs.Answer.{Answer, given, refused, first}
 use Rattle.answers.specs.Row.{inTurn}
 use Rattle.block.specs.Bytes.{twoAt, fourAt}
@@ -49,9 +49,9 @@ admissions =
     ∷ (headOf 1 2 2 4 0 9 232, refused Check 0)
     ∷ (headOf 2 1 2 4 0 9 234, refused Form 0)
     ∷ (headOf 1 3 2 4 0 10 232, refused Kind 0)
-    ∷ (headOf 1 2 1 4 0 8 235, refused Length 0)
+    ∷ (headOf 1 2 1 4 0 8 235, refused WordLength 0)
     ∷ (headOf 1 2 12 4 0 19 213, refused Size 0)
-    ∷ (headOf 1 2 13 4 0 20 211, refused Length 0)
+    ∷ (headOf 1 2 13 4 0 20 211, refused WordLength 0)
     ∷ (headOf 1 1 2 0 0 4 250, refused Count 0)
     ∷ (headOf 1 2 2 1 0 6 245, refused Size 0)
     ∷ (headOf 1 1 2 248 1 253 18, refused Size 0)

@@ -7,7 +7,7 @@ use Prim.Native.Nat.{ℕ, _+_, _*_, _≤_, _<_}
 use native.Mathlib.Omega.{arith}
 use lib.ListN.{length}
 use borrow.Author.Tests.{le-leb, lt-leb, leb-true, eqb-true, eq-eqb, ne-eqb}
-use Rattle.answers.specs.Numbers.{Short, Form, Kind, Length, Count, Spare, Size}
+use Rattle.answers.specs.Numbers.{Short, Form, Kind, WordLength, Count, Spare, Size}
 use Rattle.answers.specs.Answer.{given, refused, sound, test, first}
 use Rattle.answers.specs.Row.{inTurn}
 use Rattle.answers.proofs.Laws.{first-pass, first-fail, first-last, first-passed, first-holds, first-refused, first-both}
@@ -33,7 +33,7 @@ module _ (limit : ℕ) (b : List ℕ) where
     kind-wrong h = first-pass _ _ _ _ _ (eq-eqb _ _ form) ∙ first-fail _ _ _ _ _ h
 
     module _ (kind : isKind (formatOf b .kind) ≡ true) where
-      pub length-wrong : isWithin leastLength mostLength (formatOf b .l) ≡ false → first (fieldTests limit b) sound ≡ refused Length 0
+      pub length-wrong : isWithin leastLength mostLength (formatOf b .l) ≡ false → first (fieldTests limit b) sound ≡ refused WordLength 0
       unfolding fieldTests
       length-wrong h = first-pass _ _ _ _ _ (eq-eqb _ _ form) ∙ first-pass _ _ _ _ _ kind ∙ first-fail _ _ _ _ _ h
 

@@ -3,7 +3,7 @@ use mathlib.Core.Path.{_≡_}
 use mathlib.Core.List.{List}
 use Prim.Native.Nat.{ℕ, _<_}
 use native.Mathlib.Omega.{arith}
-use Rattle.answers.specs.Numbers.{Short, Check, Index, Form, Kind, Length, Count, Spare, Size, Word, Places, Room, Absent}
+use Rattle.answers.specs.Numbers.{Short, Check, Index, Form, Kind, WordLength, Count, Spare, Size, Word, Places, Room, Absent}
 use Rattle.answers.specs.Answer.{refused, first}
 use Rattle.answers.proofs.Only.{Only, Numbered, none, also, only-append, only-turns, only-refused}
 use Rattle.block.specs.Block.{blockAt}
@@ -34,7 +34,7 @@ module _ {P : ℕ → Type 0} (row : (n : ℕ) → 0 < n → n < Room → P n) w
         (only-append (block-only (blockAt card 0) 0 (row Check (omega arith) (omega arith)) (row Index (omega arith) (omega arith)))
         (also (row Form (omega arith) (omega arith))
         (also (row Kind (omega arith) (omega arith))
-        (also (row Length (omega arith) (omega arith))
+        (also (row WordLength (omega arith) (omega arith))
         (also (row Count (omega arith) (omega arith))
         (also (row Spare (omega arith) (omega arith)) none))))))
 

@@ -5,7 +5,7 @@ use Prim.Native.Nat.{ℕ, _+_}
 use mathlib.Core.List.{List, [], _∷_, _++_}
 use lib.ListN.{length}
 use lib.Dec.{leb, eqb}
-use Rattle.answers.specs.Numbers.{Short, Form, Kind, Length, Count, Spare, Size}
+use Rattle.answers.specs.Numbers.{Short, Form, Kind, WordLength, Count, Spare, Size}
 use Rattle.answers.specs.Answer.{Test, test}
 use Rattle.answers.specs.Row.{inTurn}
 use Rattle.block.specs.Block.{blockBytes, blockAt, blockTests}
@@ -20,7 +20,7 @@ unfoldable pub fieldTests : ℕ → List ℕ → List Test
 fieldTests limit b =
     test (eqb (formOf b) theForm) Form 0
     ∷ test (isKind (formatOf b .kind)) Kind 0
-    ∷ test (isWithin leastLength mostLength (formatOf b .l)) Length 0
+    ∷ test (isWithin leastLength mostLength (formatOf b .l)) WordLength 0
     ∷ test (isWithin leastEntries limit (formatOf b .m)) Count 0
     ∷ test (headSpare b) Spare 0
     ∷ []

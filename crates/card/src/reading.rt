@@ -34,7 +34,7 @@ fn fields_hold(head: &[u8], f: Format) -> Held
     }
     if !layout::is_length(f.l) {
         return Held::Refused(Refusal {
-            number: answers::LENGTH,
+            number: answers::WORD_LENGTH,
             place: 0,
         });
     }

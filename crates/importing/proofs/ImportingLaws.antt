@@ -9,7 +9,7 @@ use lib.Seq.{take-all}
 use lib.Dec.{eqb}
 use borrow.Author.Tests.{eq-eqb}
 use Rattle.answers.specs.declared.Refusal.{Refusal}
-use Rattle.answers.specs.Numbers.{Length, Count}
+use Rattle.answers.specs.Numbers.{WordLength, Count}
 use Rattle.answers.specs.Answer.{given, refused, sound}
 use Rattle.answers.proofs.Laws.{first-holds, first-refused, first-refused-any, first-given-any, first-value}
 use Rattle.entries.specs.Slot.{slotFrom}
@@ -105,7 +105,7 @@ module _ (limit : ℕ) (text : List ℕ) {s : Outline} (holds : scanning text �
       (eq-eqb (length (wordsIn text)) (length (twosIn text)) (words ∙ sym twos))
 
   pub sound-length : {before : List ℕ} → isWithin leastLength mostLength (s .l) ≡ false
-      → Writes limit (kindOf (s .mark)) (s .l) (wordsIn text) (onesIn text) (twosIn text) before (Refused (record { number = Length; place = 0 })) before
+      → Writes limit (kindOf (s .mark)) (s .l) (wordsIn text) (onesIn text) (twosIn text) before (Refused (record { number = WordLength; place = 0 })) before
   sound-length e = lists-refused (length-wrong limit (kindOf (s .mark)) (s .l) _ _ _ (is-kind (s .mark)) e)
 
   pub sound-many : {before : List ℕ} → isWithin leastLength mostLength (s .l) ≡ true → isWithin leastEntries limit (s .m) ≡ false

@@ -12,7 +12,7 @@ use Prim.Native.Nat.{ℕ}
 use mathlib.Core.List.{List, [], _∷_, _++_}
 use lib.ListN.{length}
 use lib.Dec.{leb}
-use Rattle.answers.specs.Numbers.{Length, Count, Places, Room, Text, Mixed, Uneven, Zero}
+use Rattle.answers.specs.Numbers.{WordLength, Count, Places, Room, Text, Mixed, Uneven, Zero}
 use Rattle.answers.specs.Answer.{Answer, test, first, outputAfter}
 use Rattle.entries.specs.Slot.{slotFrom}
 use Rattle.layout.specs.Layout.{sizeOf}
@@ -61,7 +61,7 @@ pub data RefusesBy : ℕ → Type 0 where
   mixed : RefusesBy Mixed
   uneven : RefusesBy Uneven
   place-0 : RefusesBy Zero
-  letters : RefusesBy Length
+  letters : RefusesBy WordLength
   count : RefusesBy Count
   places : RefusesBy Places
   no-room : RefusesBy Room

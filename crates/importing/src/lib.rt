@@ -46,7 +46,7 @@ pub fn import(text: &[u8], out: &mut [u8]) -> Written
         Scanned::Sound(s) => {
             if !layout::is_length(s.l) {
                 return Written::Refused(Refusal {
-                    number: answers::LENGTH,
+                    number: answers::WORD_LENGTH,
                     place: 0,
                 });
             }

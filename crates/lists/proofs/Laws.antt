@@ -8,7 +8,7 @@ use native.Mathlib.Omega.{arith}
 use lib.ListN.{length}
 use lib.Dec.{eqb}
 use borrow.Author.Tests.{eq-eqb, ne-eqb, eqb-true}
-use Rattle.answers.specs.Numbers.{Kind, Length, Lists, Count, Word, Places}
+use Rattle.answers.specs.Numbers.{Kind, WordLength, Lists, Count, Word, Places}
 use Rattle.answers.specs.Answer.{given, refused, sound, first}
 use Rattle.answers.specs.Row.{inTurn}
 use Rattle.answers.proofs.Laws.{first-pass, first-fail, first-passed, turns-hold, turns-held}
@@ -43,7 +43,7 @@ module _ (limit kind l : ℕ) (words ones twos : List ℕ) where
   kind-wrong h = first-fail _ _ _ _ _ h
 
   module _ (kind-ok : isKind kind ≡ true) where
-    pub length-wrong : isWithin leastLength mostLength l ≡ false → first (listsTests limit kind l words ones twos) sound ≡ refused Length 0
+    pub length-wrong : isWithin leastLength mostLength l ≡ false → first (listsTests limit kind l words ones twos) sound ≡ refused WordLength 0
     unfolding listsTests
     length-wrong h = first-pass _ _ _ _ _ kind-ok ∙ first-fail _ _ _ _ _ h
 
@@ -103,7 +103,7 @@ module _ {limit kind l : ℕ} {words ones twos : List ℕ} where
 
 module _ (limit kind l : ℕ) (words ones twos : List ℕ) where
   -- by which numbers lists are refused
-  pub lists-only : {P : ℕ → Type 0} → P Kind → P Length → P Lists → P Count → P Word → P Places → Only P (listsTests limit kind l words ones twos)
+  pub lists-only : {P : ℕ → Type 0} → P Kind → P WordLength → P Lists → P Count → P Word → P Places → Only P (listsTests limit kind l words ones twos)
   unfolding listsTests
   lists-only kinds letters lists count word places =
       also kinds (also letters (also lists (also count
@@ -112,7 +112,7 @@ module _ (limit kind l : ℕ) (words ones twos : List ℕ) where
   -- lists of a kind, of one length and of words that fit are refused by fewer
   pub fit-only : {P : ℕ → Type 0} → isKind kind ≡ true → sameLength words ones twos ≡ true
       → ((e : ℕ) → e < length words → slotFrom words ones twos e .word < 4 ^ l)
-      → P Length → P Count → P Places → Only P (listsTests limit kind l words ones twos)
+      → P WordLength → P Count → P Places → Only P (listsTests limit kind l words ones twos)
   unfolding listsTests
   fit-only a-kind same fits letters count places =
       holds a-kind (also letters (holds same (also count

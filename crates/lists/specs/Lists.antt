@@ -12,7 +12,7 @@ use mathlib.Core.Bool.{Bool, true, _&&_}
 use mathlib.Core.List.{List, _∷_}
 use lib.ListN.{length}
 use lib.Dec.{eqb}
-use Rattle.answers.specs.Numbers.{Kind, Length, Lists, Count}
+use Rattle.answers.specs.Numbers.{Kind, WordLength, Lists, Count}
 use Rattle.answers.specs.Answer.{given, sound, Test, test, first}
 use Rattle.answers.specs.Row.{inTurn}
 use Rattle.entries.specs.declared.Format.{Format}
@@ -31,7 +31,7 @@ sameLength words ones twos = eqb (length words) (length ones) && eqb (length wor
 unfoldable pub listsTests : ℕ → ℕ → ℕ → List ℕ → List ℕ → List ℕ → List Test
 listsTests limit kind l words ones twos =
     test (isKind kind) Kind 0
-    ∷ test (isWithin leastLength mostLength l) Length 0
+    ∷ test (isWithin leastLength mostLength l) WordLength 0
     ∷ test (sameLength words ones twos) Lists 0
     ∷ test (isWithin leastEntries limit (length words)) Count 0
     ∷ inTurn (λ e. entryTests (formatFor kind l words) e (slotFrom words ones twos e)) 0 (length words)

@@ -68,7 +68,7 @@ pub fn lists_hold(kind: usize, l: usize, words: &[u32], ones: &[u16], twos: &[u1
     }
     if !layout::is_length(l) {
         return Held::Refused(Refusal {
-            number: answers::LENGTH,
+            number: answers::WORD_LENGTH,
             place: 0,
         });
     }

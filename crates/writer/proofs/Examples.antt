@@ -3,7 +3,7 @@ use mathlib.Core.Path.{_≡_, refl}
 use mathlib.Core.List.{List, [], _∷_, _++_, map}
 use Prim.Native.Nat.{ℕ}
 use lib.ListN.{replicate}
-use Rattle.answers.specs.Numbers.{Kind, Length, Lists, Count, Word, Places, Room}
+use Rattle.answers.specs.Numbers.{Kind, WordLength, Lists, Count, Word, Places, Room}
 use Rattle.answers.specs.Answer.{Answer, given, refused, first}
 use Rattle.answers.specs.Row.{inTurn}
 use Rattle.block.specs.Bytes.{twoBytes, fourBytes}
@@ -67,16 +67,16 @@ asked =
     ∷ plain 3 1 1 1024 (refused Kind 0)
     ∷ plain 257 2 1 1024 (refused Kind 0)
     -- "l 2 and 12 pass, 1 and 13 give 6; m 1 and 504 pass, 0 and 505 give 7"
-    ∷ plain pair 1 1 1024 (refused Length 0)
+    ∷ plain pair 1 1 1024 (refused WordLength 0)
     ∷ plain pair 12 1 1024 (given 1024)
-    ∷ plain pair 13 0 1024 (refused Length 0)
+    ∷ plain pair 13 0 1024 (refused WordLength 0)
     ∷ plain pair 2 0 1024 (refused Count 0)
     ∷ plain pair 2 63 1024 (given 1024)
     ∷ plain pair 2 64 1536 (given 1536)
     ∷ plain pair 2 504 4608 (given 4608)
     ∷ plain pair 2 505 0 (refused Count 0)
     -- 6 before 13, 13 before 7 and before the entries, 7 before the entries
-    ∷ record { kind = pair; l = 13; words = 0 ∷ []; ones = []; twos = 0 ∷ []; room = 1024; answer = refused Length 0 }
+    ∷ record { kind = pair; l = 13; words = 0 ∷ []; ones = []; twos = 0 ∷ []; room = 1024; answer = refused WordLength 0 }
     ∷ record { kind = pair; l = 2; words = replicate 505 99; ones = replicate 505 0; twos = replicate 505 0; room = 0; answer = refused Count 0 }
     ∷ two (0 ∷ 0 ∷ []) (0 ∷ []) (0 ∷ 0 ∷ []) 1024 (refused Lists 0)
     ∷ two (99 ∷ 0 ∷ []) (0 ∷ 0 ∷ []) (0 ∷ []) 0 (refused Lists 0)
