@@ -1,8 +1,8 @@
 /* Spectrum cards: admitting, reading and writing them, building the sequence, settling narrow cards, counting builds, and probe lists; and FASTA
  * records. For firmware, in C99 and in C++.
  *
- * Link libbelfrymist.a, by -lbelfrymist: `make` writes it, for x86-64, and `make install` puts it below PREFIX with a file for pkg-config, which looks
- * for that below /usr/local, or where PKG_CONFIG_PATH says (PREFIX/lib/pkgconfig).
+ * Link libbelfrymist.a, by -lbelfrymist, on x86-64 alone. `make` writes it, and `make install` puts it below PREFIX, with a file for pkg-config in
+ * PREFIX/lib/pkgconfig: where pkg-config does not look there, name that folder in PKG_CONFIG_PATH.
  *
  * Each function is proved to meet its contract, which stands over the function of the same name in crates/firmware/src/. Here the same is said in
  * words; where the two differ, the contract is right.

@@ -159,4 +159,4 @@ made = page(*((TOP / file).read_text() for file in ("include/belfrymist.h", "man
 if not sys.argv[1:]:
     print(made, end="")
 elif (TOP / "man/belfrymist.3").read_text() != made:
-    sys.exit("from_header.py: man/belfrymist.3 is not what the header gives; man/from_header.py >man/belfrymist.3 makes it anew")
+    sys.exit("from_header.py: man/belfrymist.3 is not what the header gives; `make manual` makes it anew")

@@ -1,4 +1,4 @@
-// Reads a card from standard input, builds it, and writes the sequence: a program in C++ that uses the library as it is installed.
+// Reads a card from standard input, builds it, and writes the verdict's number and the sequence: a program in C++ that uses the library as it is installed.
 #include <belfrymist.h>
 
 #include <iostream>

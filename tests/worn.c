@@ -5,15 +5,15 @@
 
 #include "belfrymist.h"
 
-enum { BUDGET = 1000000 };
+enum { BUDGET = 1000000, NUMBERS = 100 };
 
 static uint8_t card[BELFRYMIST_MOST_CARD], letters[BELFRYMIST_MOST_SEQUENCE];
-static size_t length, refused[BELFRYMIST_REFUSED_WIDER + 1], verdicts[BELFRYMIST_UNSETTLED + 1];
+static size_t length, refused[NUMBERS], verdicts[BELFRYMIST_UNSETTLED + 1];
 
 static void try_card(void)
 {
     size_t number = belfrymist_admit(card, length).number;
-    refused[number]++;
+    refused[number < NUMBERS ? number : NUMBERS - 1]++;
     if (number == 0)
         verdicts[belfrymist_build(card, length, BUDGET, letters, sizeof letters).verdict]++;
 }

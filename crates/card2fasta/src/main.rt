@@ -5,10 +5,8 @@ use libc::STDERR_FILENO;
 use libc::STDOUT_FILENO;
 
 fn main() {
-    if !streams::called_with(1, b"usage: card2fasta NAME < CARD > RECORD\n") {
-        return;
-    }
-    let card = streams::card::read(b"card2fasta: standard input");
+    let usage = b"usage: card2fasta NAME < CARD > RECORD\n";
+    let card = streams::card::read(1, usage, b"card2fasta: standard input");
     if !card.whole {
         return;
     }

@@ -3,10 +3,8 @@ use libc::STDERR_FILENO;
 use libc::STDOUT_FILENO;
 
 fn main() {
-    if !streams::called_with(0, b"usage: card2list < CARD > LIST\n") {
-        return;
-    }
-    let card = streams::card::read(b"card2list: standard input");
+    let usage = b"usage: card2list < CARD > LIST\n";
+    let card = streams::card::read(0, usage, b"card2list: standard input");
     if !card.whole {
         return;
     }

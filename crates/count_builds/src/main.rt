@@ -3,10 +3,8 @@ use libc::STDOUT_FILENO;
 use lines::count::LINE;
 
 fn main() {
-    if !streams::called_with(0, b"usage: count_builds < CARD\n") {
-        return;
-    }
-    let card = streams::card::read(b"count_builds: standard input");
+    let usage = b"usage: count_builds < CARD\n";
+    let card = streams::card::read(0, usage, b"count_builds: standard input");
     if !card.whole {
         return;
     }

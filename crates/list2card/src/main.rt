@@ -4,11 +4,9 @@ use libc::STDOUT_FILENO;
 use streams::list::BYTES;
 
 fn main() {
-    if !streams::called_with(0, b"usage: list2card < LIST > CARD\n") {
-        return;
-    }
+    let usage = b"usage: list2card < LIST > CARD\n";
     let mut list = [0u8; BYTES];
-    let given = streams::list::read(&mut list, b"list2card: standard input");
+    let given = streams::list::read(&mut list, usage, b"list2card: standard input");
     if !given.whole {
         return;
     }

@@ -3,10 +3,8 @@ use libc::STDOUT_FILENO;
 use lines::LINES;
 
 fn main() {
-    if !streams::called_with(0, b"usage: settle < CARD\n") {
-        return;
-    }
-    let card = streams::card::read(b"settle: standard input");
+    let usage = b"usage: settle < CARD\n";
+    let card = streams::card::read(0, usage, b"settle: standard input");
     if !card.whole {
         return;
     }

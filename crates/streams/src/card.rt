@@ -8,19 +8,20 @@ ghost use Rattle.streams.specs.Input.{programBytes};
 // One byte more than the longest card has.
 const BYTES: usize = layout::LONGEST + 1;
 
-// The first n of the bytes are what was read, and whether no read failed.
+// The first n of the bytes are what was read, and whether it is all there, as `Given` has it.
 pub struct Input {
     pub bytes: [u8; BYTES],
     pub n: usize,
     pub whole: bool,
 }
 
-// Reads standard input. Where a read fails, says on standard error of what, and why.
-pub fn read(what: &[u8]) -> Input
+// Reads standard input, where the program was called with so many arguments. Where it was not, says on standard error how it is used; where a read
+// fails, of what, and why.
+pub fn read(arguments: usize, usage: &[u8], what: &[u8]) -> Input
     ensures { λ r. ⌜ (length (r .bytes) ≡ programBytes mostEntries) × (r .n ≤ length (r .bytes)) ⌝ }
 {
     let mut bytes = [0u8; BYTES];
-    let given = crate::fill(&mut bytes, what);
+    let given = crate::take(&mut bytes, arguments, usage, what);
     let n = given.n;
     let whole = given.whole;
     Input { bytes, n, whole }

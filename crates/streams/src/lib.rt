@@ -10,14 +10,15 @@ use libc::STDERR_FILENO;
 // The most bytes that are read at once.
 const AT_ONCE: usize = 4096;
 
-// What was read: the first n bytes of a buffer, and whether no read failed.
+// What was read: the first n bytes of a buffer, and whether it is all there. It is not where the program was called in another way, or where a read
+// failed.
 pub struct Given {
     pub n: usize,
     pub whole: bool,
 }
 
 // Whether the program was called with so many arguments. Where it was not, says on standard error how it is used.
-pub fn called_with(arguments: usize, usage: &[u8]) -> bool {
+fn called_with(arguments: usize, usage: &[u8]) -> bool {
     let given = os::arg_count();
     if given > 0 && given - 1 == arguments {
         return true;
@@ -51,6 +52,16 @@ fn fill(bytes: &mut [u8], what: &[u8]) -> Given
         n = text::put_text(bytes, n, &more[..k]);
     }
     Given { n, whole: true }
+}
+
+// Reads standard input to the start of the buffer, where the program was called with so many arguments.
+fn take(bytes: &mut [u8], arguments: usize, usage: &[u8], what: &[u8]) -> Given
+    ensures { λ r. ⌜ r .n ≤ length (now (bytes .exit)) ⌝ }
+{
+    if !called_with(arguments, usage) {
+        return Given { n: 0, whole: false };
+    }
+    fill(bytes, what)
 }
 
 // Writes the bytes on a stream. Where not all of them could be written, says on standard error of what, and why.

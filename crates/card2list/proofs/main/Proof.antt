@@ -15,23 +15,14 @@ card-read c = c .before .before .before .before
 abbrev made : tie.After-write → tie.After-convert
 made c = c .before .before .before
 
-slice-aggregate-called-with : tie.Need-slice-aggregate-called-with
-slice-aggregate-called-with c = search needs
-
-called-with-requires : tie.Need-called-with-requires
-called-with-requires c κs = search needs
-
-returns : tie.Need-returns
-returns c = search needs
-
 slice-aggregate-read : tie.Need-slice-aggregate-read
 slice-aggregate-read c = search needs
 
 read-requires : tie.Need-read-requires
 read-requires c κs = search needs
 
-returns-2 : tie.Need-returns-2
-returns-2 c = search needs
+returns : tie.Need-returns
+returns c = search needs
 
 array-share-prefix-bytes : tie.Need-array-share-prefix-bytes
 array-share-prefix-bytes c = search needs
@@ -63,19 +54,16 @@ slice-aggregate-write-all c = sym (length-take-le _ _ (printed-fits (made (c .be
 write-all-requires : tie.Need-write-all-requires
 write-all-requires c κs = search needs
 
-returns-3 : tie.Need-returns-3
-returns-3 c = search needs
+returns-2 : tie.Need-returns-2
+returns-2 c = search needs
 
 pub main-spec : {M : Type 1} → statement M
 main-spec =
     tie.close
     (tie.spec
-    slice-aggregate-called-with
-    called-with-requires
-    returns
     slice-aggregate-read
     read-requires
-    returns-2
+    returns
     array-share-prefix-bytes
     slice-aggregate-convert
     convert-requires
@@ -86,4 +74,4 @@ main-spec =
     array-share-prefix-err
     slice-aggregate-write-all
     write-all-requires
-    returns-3)
+    returns-2)

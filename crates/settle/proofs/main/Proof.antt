@@ -10,23 +10,14 @@ use Rattle.settle.proofs.main.Tie as tie
 abbrev card-read : tie.After-bytes2 → tie.After-read
 card-read c = c .before .before .before .before
 
-slice-aggregate-called-with : tie.Need-slice-aggregate-called-with
-slice-aggregate-called-with c = search needs
-
-called-with-requires : tie.Need-called-with-requires
-called-with-requires c κs = search needs
-
-returns : tie.Need-returns
-returns c = search needs
-
 slice-aggregate-read : tie.Need-slice-aggregate-read
 slice-aggregate-read c = search needs
 
 read-requires : tie.Need-read-requires
 read-requires c κs = search needs
 
-returns-2 : tie.Need-returns-2
-returns-2 c = search needs
+returns : tie.Need-returns
+returns c = search needs
 
 array-share-prefix-bytes : tie.Need-array-share-prefix-bytes
 array-share-prefix-bytes c = search needs
@@ -49,19 +40,16 @@ slice-aggregate-write-2 c = search needs
 write-requires : tie.Need-write-requires
 write-requires c κs = search needs
 
-returns-3 : tie.Need-returns-3
-returns-3 c = search needs
+returns-2 : tie.Need-returns-2
+returns-2 c = search needs
 
 pub main-spec : {M : Type 1} → statement M
 main-spec =
     tie.close
     (tie.spec
-    slice-aggregate-called-with
-    called-with-requires
-    returns
     slice-aggregate-read
     read-requires
-    returns-2
+    returns
     array-share-prefix-bytes
     slice-aggregate-report
     report-requires
@@ -69,4 +57,4 @@ main-spec =
     slice-aggregate-write
     slice-aggregate-write-2
     write-requires
-    returns-3)
+    returns-2)
