@@ -1,5 +1,5 @@
--- `main` is safe: the card and the name are parts of their buffers, and what is written on each stream is a part of its buffer (`printed-fits`). Assumes
--- nothing.
+-- `main` is safe: the card and the name are parts of their buffers, and what is written on each stream is a part of its buffer (`printed-fits`).
+-- Assumes nothing.
 use mathlib.Core.Path.{sym}
 use lib.Seq.{length-take-le}
 use borrow.Author.Needs.{needs}

@@ -2,11 +2,9 @@
 -- Assumes nothing.
 use mathlib.Core.Path.{_≡_, sym}
 use Prim.Native.Nat.{_-_, _≤_}
-use native.Mathlib.Omega.{arith}
 use lib.ListN.{length}
-use lib.Seq.{length-take-le}
 use borrow.Author.Needs.{needs}
-use Rattle.streams.proofs.FillLaws.{first-fit, room-falls}
+use Rattle.streams.proofs.FillLaws.{first-bytes, first-fit, room-falls}
 use Rattle.streams.proofs.fill.Statement.{statement}
 use Rattle.streams.proofs.fill.Tie as tie
 
@@ -54,18 +52,18 @@ abbrev counted : tie.After-more4 Inv-loop μ-loop → tie.After-least Inv-loop �
 counted c = c .before .before .before
 
 slice-aggregate-put-text : tie.Need-slice-aggregate-put-text Inv-loop μ-loop
-slice-aggregate-put-text c = let n = counted c in sym (length-take-le _ _ (omega (arith, n .least .ensures .0, n .before .count .ensures .0 .0)))
+slice-aggregate-put-text c = let n = counted c in sym (first-bytes _ _ (n .least .ensures .0) (n .before .count .ensures .0 .0))
 
 put-text-requires : tie.Need-put-text-requires Inv-loop μ-loop
 put-text-requires c κs =
     let n = counted c in
-    first-fit _ _ _ (omega (arith, n .least .ensures .0, n .before .count .ensures .0 .0)) (n .least .ensures .1) (c .before .before .if2 .left)
+    first-fit _ _ _ (n .least .ensures .0) (n .before .count .ensures .0 .0) (n .least .ensures .1) (c .before .before .if2 .left)
 
 loop-less : tie.Need-loop-less Inv-loop μ-loop
 loop-less c =
     let put = c .before .before in
     let n = counted (put .before) in
-    room-falls _ _ (put .put-text .ensures) (omega (arith, n .least .ensures .0, n .before .count .ensures .0 .0)) (put .before .before .before .if2 .left)
+    room-falls _ _ (put .put-text .ensures) (n .least .ensures .0) (n .before .count .ensures .0 .0) (put .before .before .before .if2 .left)
 
 loop-again : tie.Need-loop-again Inv-loop μ-loop
 loop-again c = search needs
