@@ -1,12 +1,12 @@
 // The records that count the builds of a card or of lists, and the line that each prints.
 ghost use Prim.Native.Nat.{_≤_};
-ghost use Rattle.records.specs.Record.{slots};
-use counting::Number;
-use records::input;
-use records::input::FIELDS;
-use records::lent;
-use records::lent::ROOM;
-use records::output;
+ghost use Rattle.test_records.specs.Record.{slots};
+use build_count::Number;
+use test_records::input;
+use test_records::input::FIELDS;
+use test_records::lent;
+use test_records::lent::ROOM;
+use test_records::output;
 
 // Tells the number of builds.
 fn tell(n: Number) {
@@ -23,13 +23,13 @@ fn tell_card(card: &mut [u8]) -> bool {
     if !input::fill(card) {
         return false;
     }
-    tell(counting::count_card(card));
+    tell(build_count::count_card(card));
     true
 }
 
 // The same with a card of as many bytes as the fields say, where there can be such.
 pub fn of_card(fields: &[u8; FIELDS]) -> bool {
-    let n = block::four_at(fields, 0) as usize;
+    let n = card_block::four_at(fields, 0) as usize;
     if ROOM < n {
         return false;
     }
@@ -50,15 +50,15 @@ fn tell_lists(fields: &[u8; FIELDS], a: usize, b: usize, c: usize) -> bool
     let twos = read.twos;
     let kind = input::eight_at(fields, 0);
     let l = input::eight_at(fields, 8);
-    tell(counting::count_lists(kind, l, &words[..a], &ones[..b], &twos[..c]));
+    tell(build_count::count_lists(kind, l, &words[..a], &ones[..b], &twos[..c]));
     true
 }
 
 // The same with lists of as many slots as the fields say, where there can be such.
 pub fn of_lists(fields: &[u8; FIELDS]) -> bool {
-    let a = block::two_at(fields, 16) as usize;
-    let b = block::two_at(fields, 18) as usize;
-    let c = block::two_at(fields, 20) as usize;
+    let a = card_block::two_at(fields, 16) as usize;
+    let b = card_block::two_at(fields, 18) as usize;
+    let c = card_block::two_at(fields, 20) as usize;
     if !input::are_few(a, b, c) {
         return false;
     }

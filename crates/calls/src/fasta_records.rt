@@ -1,13 +1,13 @@
 // The records that write a name and letters as a FASTA record and read that, or read any, and the line that each prints.
-use fasta::reading;
-use fasta::reading::Parsed;
-use fasta::writing;
-use fasta::writing::Recorded;
-use records::input;
-use records::input::FIELDS;
-use records::lent;
-use records::lent::ROOM;
-use records::output;
+use test_records::input;
+use test_records::input::FIELDS;
+use test_records::lent;
+use test_records::lent::ROOM;
+use test_records::output;
+use text_fasta::reading;
+use text_fasta::reading::Parsed;
+use text_fasta::writing;
+use text_fasta::writing::Recorded;
 
 // Tells what reading answers, both lengths or the refusal, and what the two outputs hold afterwards.
 fn tell_parts(p: Parsed, name: &[u8], letters: &[u8]) {
@@ -76,9 +76,9 @@ fn told(tag: u8, a: &mut [u8], b: &mut [u8], c: &mut [u8]) -> bool {
 
 // The same with as many bytes of each as the fields say, where there can be such.
 pub fn of_fields(tag: u8, fields: &[u8; FIELDS]) -> bool {
-    let i = block::two_at(fields, 0) as usize;
-    let j = block::two_at(fields, 2) as usize;
-    let k = block::two_at(fields, 4) as usize;
+    let i = card_block::two_at(fields, 0) as usize;
+    let j = card_block::two_at(fields, 2) as usize;
+    let k = card_block::two_at(fields, 4) as usize;
     if ROOM < i {
         return false;
     }

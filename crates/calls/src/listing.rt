@@ -1,15 +1,15 @@
 // The records that import a list, export a card, or do the one after the other, and the line that each prints.
 ghost use Prim.Native.Nat.{_≤_};
-ghost use Rattle.records.specs.Record.{slots};
-use exporting::Exported;
-use records::input;
-use records::input::FIELDS;
-use records::lent;
-use records::lent::ROOM;
-use records::lent::SLOTS;
-use records::lent::TEXT_ROOM;
-use records::output;
-use writer::Written;
+ghost use Rattle.test_records.specs.Record.{slots};
+use card_writer::Written;
+use test_records::input;
+use test_records::input::FIELDS;
+use test_records::lent;
+use test_records::lent::ROOM;
+use test_records::lent::SLOTS;
+use test_records::lent::TEXT_ROOM;
+use test_records::output;
+use text_export::Exported;
 
 // Tells what importing answers, the card's length under this name or the refusal, and what the output holds afterwards.
 fn tell_card(name: &[u8], w: Written, out: &[u8]) {
@@ -35,15 +35,15 @@ fn import_told(list: &mut [u8], out: &mut [u8]) -> bool {
     if !input::fill(list) {
         return false;
     }
-    let w = importing::import(list, out);
+    let w = text_import::import(list, out);
     tell_card(b"card", w, out);
     true
 }
 
 // The same with a list and an output of as many bytes as the fields say, where there can be such.
 pub fn of_list(fields: &[u8; FIELDS]) -> bool {
-    let n = block::four_at(fields, 0) as usize;
-    let room = block::two_at(fields, 4) as usize;
+    let n = card_block::four_at(fields, 0) as usize;
+    let room = card_block::two_at(fields, 4) as usize;
     if TEXT_ROOM < n {
         return false;
     }
@@ -60,7 +60,7 @@ fn export_told(card: &mut [u8], out: &mut [u8]) -> bool {
     if !input::fill(card) {
         return false;
     }
-    let e = exporting::export(card, out);
+    let e = text_export::export(card, out);
     tell_list(e, out);
     output::text(b"\n");
     true
@@ -68,8 +68,8 @@ fn export_told(card: &mut [u8], out: &mut [u8]) -> bool {
 
 // The same with a card and an output of as many bytes as the fields say, where there can be such.
 pub fn of_card(fields: &[u8; FIELDS]) -> bool {
-    let n = block::four_at(fields, 0) as usize;
-    let room = block::two_at(fields, 4) as usize;
+    let n = card_block::four_at(fields, 0) as usize;
+    let room = card_block::two_at(fields, 4) as usize;
     if ROOM < n {
         return false;
     }
@@ -86,7 +86,7 @@ fn import_again(list: &[u8], n: usize, out: &mut [u8]) -> bool {
     if list.len() < n {
         return false;
     }
-    let w = importing::import(&list[..n], out);
+    let w = text_import::import(&list[..n], out);
     tell_card(b"again", w, out);
     true
 }
@@ -95,7 +95,7 @@ fn import_again(list: &[u8], n: usize, out: &mut [u8]) -> bool {
 fn again(card: &[u8]) -> bool {
     let mut list = lent::texts();
     let mut out = lent::bytes();
-    match exporting::export(card, &mut list) {
+    match text_export::export(card, &mut list) {
         Exported::Text(n) => import_again(&list, n, &mut out),
         Exported::Refused(r) => {
             tell_card(b"again", Written::Refused(r), &out);
@@ -114,7 +114,7 @@ fn again_told(card: &mut [u8]) -> bool {
 
 // The same with a card of as many bytes as the fields say, where there can be such.
 pub fn again_of_card(fields: &[u8; FIELDS]) -> bool {
-    let n = block::four_at(fields, 0) as usize;
+    let n = card_block::four_at(fields, 0) as usize;
     if ROOM < n {
         return false;
     }
@@ -129,7 +129,7 @@ fn list_and_again(card: &[u8], n: usize) -> bool {
     }
     let mut list = lent::texts();
     let mut out = lent::bytes();
-    let e = exporting::export(&card[..n], &mut list);
+    let e = text_export::export(&card[..n], &mut list);
     tell_list(e, &list);
     output::text(b" ");
     match e {
@@ -152,7 +152,7 @@ fn lists_told(fields: &[u8; FIELDS], m: usize) -> bool
     let kind = input::eight_at(fields, 0);
     let l = input::eight_at(fields, 8);
     let mut card = lent::bytes();
-    match writer::write(kind, l, &words[..m], &ones[..m], &twos[..m], &mut card) {
+    match card_writer::write(kind, l, &words[..m], &ones[..m], &twos[..m], &mut card) {
         Written::Card(n) => list_and_again(&card, n),
         Written::Refused(r) => false,
     }
@@ -160,7 +160,7 @@ fn lists_told(fields: &[u8; FIELDS], m: usize) -> bool
 
 // The same with lists of as many slots as the fields say, where there can be such.
 pub fn again_of_lists(fields: &[u8; FIELDS]) -> bool {
-    let m = block::two_at(fields, 16) as usize;
+    let m = card_block::two_at(fields, 16) as usize;
     if SLOTS < m {
         return false;
     }

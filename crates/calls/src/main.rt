@@ -36,10 +36,10 @@ mod listing;
 mod settle;
 
 ghost use Prim.Native.Nat.{_≤_};
-ghost use Rattle.records.specs.Record.{fieldBytes};
-use records::input;
-use records::input::FIELDS;
-use records::output;
+ghost use Rattle.test_records.specs.Record.{fieldBytes};
+use test_records::input;
+use test_records::input::FIELDS;
+use test_records::output;
 
 // A proved loop has to end, and nothing says that standard input does: no run has as many records.
 const TURNS: u32 = 4000000;

@@ -1,13 +1,13 @@
 // The records that settle a card or lists, and the line that each prints.
 ghost use Prim.Native.Nat.{_≤_};
-ghost use Rattle.records.specs.Record.{slots};
-use builds::BuildAnswer;
-use records::input;
-use records::input::FIELDS;
-use records::lent;
-use records::lent::LETTERS;
-use records::lent::ROOM;
-use records::output;
+ghost use Rattle.test_records.specs.Record.{slots};
+use build_card::BuildAnswer;
+use test_records::input;
+use test_records::input::FIELDS;
+use test_records::lent;
+use test_records::lent::LETTERS;
+use test_records::lent::ROOM;
+use test_records::output;
 
 // Tells what settling answers, the verdict with its numbers or the refusal, and what the output holds afterwards.
 fn tell(a: BuildAnswer, out: &[u8]) {
@@ -27,15 +27,15 @@ fn tell_card(card: &mut [u8], out: &mut [u8]) -> bool {
     if !input::fill(card) {
         return false;
     }
-    let a = narrow::settle_card(card, out);
+    let a = build_narrow::settle_card(card, out);
     tell(a, out);
     true
 }
 
 // The same with a card and an output of as many bytes as the fields say, where there can be such.
 pub fn of_card(fields: &[u8; FIELDS]) -> bool {
-    let n = block::four_at(fields, 0) as usize;
-    let room = block::two_at(fields, 4) as usize;
+    let n = card_block::four_at(fields, 0) as usize;
+    let room = card_block::two_at(fields, 4) as usize;
     if ROOM < n {
         return false;
     }
@@ -60,17 +60,17 @@ fn tell_lists(fields: &[u8; FIELDS], a: usize, b: usize, c: usize, out: &mut [u8
     let twos = read.twos;
     let kind = input::eight_at(fields, 0);
     let l = input::eight_at(fields, 8);
-    let s = narrow::settle_lists(kind, l, &words[..a], &ones[..b], &twos[..c], out);
+    let s = build_narrow::settle_lists(kind, l, &words[..a], &ones[..b], &twos[..c], out);
     tell(s, out);
     true
 }
 
 // The same with lists of as many slots, and an output of as many bytes, as the fields say, where there can be such.
 pub fn of_lists(fields: &[u8; FIELDS]) -> bool {
-    let a = block::two_at(fields, 16) as usize;
-    let b = block::two_at(fields, 18) as usize;
-    let c = block::two_at(fields, 20) as usize;
-    let room = block::two_at(fields, 22) as usize;
+    let a = card_block::two_at(fields, 16) as usize;
+    let b = card_block::two_at(fields, 18) as usize;
+    let c = card_block::two_at(fields, 20) as usize;
+    let room = card_block::two_at(fields, 22) as usize;
     if !input::are_few(a, b, c) {
         return false;
     }

@@ -1,12 +1,12 @@
 // The program `card2fasta NAME`: reads a card from standard input, and writes the FASTA record of its only build, by that name; or on standard
 // error why there is none.
-use fasta::MOST_NAME;
 use libc::STDERR_FILENO;
 use libc::STDOUT_FILENO;
+use text_fasta::MOST_NAME;
 
 fn main() {
     let usage = b"usage: card2fasta NAME < CARD > RECORD\n";
-    let card = streams::card::read(1, usage, b"card2fasta: standard input");
+    let card = program_streams::card::read(1, usage, b"card2fasta: standard input");
     if !card.whole {
         return;
     }
@@ -15,12 +15,17 @@ fn main() {
     // Of a name that is longer than one may be there are no bytes, and no record has an empty name.
     let mut name = [0u8; MOST_NAME];
     let k = os::arg(1, &mut name);
-    let mut out = [0u8; converting::to_fasta::RECORD];
-    let mut err = [0u8; lines::verdict::LINE];
-    let written = converting::to_fasta::convert(&bytes[..n], &name[..k], &mut out, &mut err);
+    let mut out = [0u8; program_converting::to_fasta::RECORD];
+    let mut err = [0u8; program_lines::verdict::LINE];
+    let written = program_converting::to_fasta::convert(
+        &bytes[..n],
+        &name[..k],
+        &mut out,
+        &mut err,
+    );
     let output = written.output;
     let errors = written.errors;
-    streams::write(
+    program_streams::write(
         STDOUT_FILENO,
         &out[..output],
         b"card2fasta: standard output",

@@ -4,17 +4,17 @@ use libc::STDOUT_FILENO;
 
 fn main() {
     let usage = b"usage: card2list < CARD > LIST\n";
-    let card = streams::card::read(0, usage, b"card2list: standard input");
+    let card = program_streams::card::read(0, usage, b"card2list: standard input");
     if !card.whole {
         return;
     }
     let bytes = card.bytes;
     let n = card.n;
-    let mut out = [0u8; exporting::LIST];
-    let mut err = [0u8; converting::LINE];
-    let written = converting::to_list::convert(&bytes[..n], &mut out, &mut err);
+    let mut out = [0u8; text_export::LIST];
+    let mut err = [0u8; program_converting::LINE];
+    let written = program_converting::to_list::convert(&bytes[..n], &mut out, &mut err);
     let output = written.output;
     let errors = written.errors;
-    streams::write(STDOUT_FILENO, &out[..output], b"card2list: standard output");
+    program_streams::write(STDOUT_FILENO, &out[..output], b"card2list: standard output");
     io::write_all(STDERR_FILENO, &err[..errors]);
 }

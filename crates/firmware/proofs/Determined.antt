@@ -5,9 +5,9 @@ use contract.Lifetimes.{Lfts}
 use denote.Ref.{now}
 use denote.Triple.Clauses.{AtExit}
 use borrow.Fn.Kinds.{Dens, resT, endedOf}
-use Rattle.builds.proofs.Determined.{told-one}
-use Rattle.narrow.proofs.SettlingLaws.{settles-one}
-use Rattle.counting.proofs.CountingLaws.{counts-one}
+use Rattle.build_card.proofs.Determined.{told-one}
+use Rattle.build_narrow.proofs.SettlingLaws.{settles-one}
+use Rattle.build_count.proofs.CountingLaws.{counts-one}
 use Rattle.firmware.specs.Building.{buildAnswer}
 use Rattle.firmware.proofs.belfrymist_admit.Kinds as admit
 use Rattle.firmware.proofs.belfrymist_admit.Reads as admit-reads

@@ -3,20 +3,20 @@ use mathlib.Core.Path.{_≡_, refl, sym, ap, _∙_}
 use mathlib.Core.List.{List}
 use Prim.Native.Nat.{ℕ, _*_, _+_, _≤_}
 use lib.ListN.{length}
-use Rattle.answers.specs.Answer.{Answer, given, refused, Sound, sound, first}
-use Rattle.block.specs.Block.{blockBytes, fetchTests, fetchOf}
-use Rattle.block.proofs.Laws.{holds-there, part-none, part-holds, part-length}
-use Rattle.entries.specs.declared.Entry.{Entry}
-use Rattle.card.specs.Fetching.{more}
-use Rattle.sequence.specs.Many.{Power}
-use Rattle.sequence.specs.Verdict.{sole, several, noBuild, Outcome, settled, unsettled}
-use Rattle.builds.specs.Building.{answerOf, Builds}
-use Rattle.builds.specs.declared.BuildAnswer as builds
-use Rattle.narrow.specs.Settling.{Settles}
-use Rattle.narrow.proofs.SettlingLaws.{settles-as}
-use Rattle.counting.specs.declared.Number.{Number}
-use Rattle.counting.specs.Counting.{numberOf, Counts}
-use Rattle.counting.proofs.CountingLaws.{counts-as}
+use Rattle.base_answers.specs.Answer.{Answer, given, refused, Sound, sound, first}
+use Rattle.card_block.specs.Block.{blockBytes, fetchTests, fetchOf}
+use Rattle.card_block.proofs.Laws.{holds-there, part-none, part-holds, part-length}
+use Rattle.card_entries.specs.declared.Entry.{Entry}
+use Rattle.card_reader.specs.Fetching.{more}
+use Rattle.build_sequence.specs.Many.{Power}
+use Rattle.build_sequence.specs.Verdict.{sole, several, noBuild, Outcome, settled, unsettled}
+use Rattle.build_card.specs.Building.{answerOf, Builds}
+use Rattle.build_card.specs.declared.BuildAnswer as builds
+use Rattle.build_narrow.specs.Settling.{SettlesInto}
+use Rattle.build_narrow.proofs.SettlingLaws.{settles-as}
+use Rattle.build_count.specs.declared.Number.{Number}
+use Rattle.build_count.specs.Counting.{numberOf, Counts}
+use Rattle.build_count.proofs.CountingLaws.{counts-as}
 use Rattle.firmware.specs.declared.building.BuildAnswer.{BuildAnswer}
 use Rattle.firmware.specs.Building.{buildAnswer, flatOf, Told}
 use Rattle.firmware.specs.declared.Shape.{Shape}
@@ -105,9 +105,9 @@ build-flat b e = record {
 
 -- the struct of what settling answers
 pub settle-flat : {Says : Answer Outcome → Type 0} {before after : List ℕ} {r : builds.BuildAnswer} {result : BuildAnswer}
-    → Settles answerOf Says before r after
+    → SettlesInto answerOf Says before r after
     → result ≡ flatOf r
-    → Settles buildAnswer Says before result after
+    → SettlesInto buildAnswer Says before result after
 settle-flat c e = settles-as flatOf flat-same c e
 
 -- ---- the number of builds

@@ -5,38 +5,38 @@ use mathlib.Core.List.{List}
 use Prim.Native.Nat.{ℕ, _<_}
 use native.Mathlib.Omega.{arith}
 use lib.ListN.{length}
-use Rattle.answers.specs.Answer.{Answer, given, refused, sound, Test, first, outputAfter}
-use Rattle.answers.proofs.Laws.{given-not-refused}
-use Rattle.answers.proofs.Only.{Numbered, only-refused}
-use Rattle.block.specs.Block.{fetchTests}
-use Rattle.block.proofs.Laws.{fetch-numbered}
-use Rattle.fasta.specs.Writing as fasta
-use Rattle.fasta.specs.Reading.{reading}
-use Rattle.fasta.proofs.RefusalNumbers as fasta-numbers
-use Rattle.entries.specs.declared.Slot.{Slot}
-use Rattle.entries.specs.Slot.{entriesIn}
-use Rattle.layout.specs.Layout.{toldBy}
-use Rattle.card.specs.Reading.{readingOrder}
-use Rattle.card.specs.Fetching.{admission, entryFetch, stepping}
-use Rattle.card.proofs.RefusalNumbers.{order-numbered, admission-number, entry-number, step-number}
-use Rattle.lists.specs.Lists.{listsTests}
-use Rattle.lists.proofs.Laws.{lists-numbered}
-use Rattle.writer.specs.Writing.{writing}
-use Rattle.writer.proofs.RefusalNumbers.{writing-number}
-use Rattle.importing.specs.Importing.{importing}
-use Rattle.importing.proofs.RefusalNumbers.{importing-number}
-use Rattle.exporting.specs.Exporting.{exporting}
-use Rattle.exporting.proofs.RefusalNumbers.{exporting-number}
-use Rattle.sequence.specs.Many.{Power, two-to, no-build}
-use Rattle.sequence.specs.Verdict.{sole, several, noBuild, Outcome, settled, unsettled}
-use Rattle.builds.specs.Building.{buildTests, slotsOn, lettersAfter, Says, tells, refuses}
-use Rattle.builds.proofs.CardLaws.{build-only}
-use Rattle.narrow.specs.Settling.{listsBuildTests, settleTests, Settled, Settles}
-use Rattle.narrow.specs.Settling as settling
-use Rattle.narrow.proofs.TestLaws as narrow
-use Rattle.counting.specs.Counting.{countTests, Counted, OfCard, OfLists, Counts}
-use Rattle.counting.specs.Counting as counting
-use Rattle.counting.proofs.CountingLaws.{tests-numbered}
+use Rattle.base_answers.specs.Answer.{Answer, given, refused, sound, Test, first, outputAfter}
+use Rattle.base_answers.proofs.Laws.{given-not-refused}
+use Rattle.base_answers.proofs.Only.{Numbered, only-refused}
+use Rattle.card_block.specs.Block.{fetchTests}
+use Rattle.card_block.proofs.Laws.{fetch-numbered}
+use Rattle.text_fasta.specs.Writing as fasta
+use Rattle.text_fasta.specs.Reading.{reading}
+use Rattle.text_fasta.proofs.RefusalNumbers as fasta-numbers
+use Rattle.card_entries.specs.declared.Slot.{Slot}
+use Rattle.card_entries.specs.Slot.{entriesIn}
+use Rattle.card_layout.specs.Layout.{toldBy, slotsOn}
+use Rattle.card_reader.specs.Reading.{readingOrder}
+use Rattle.card_reader.specs.Fetching.{admission, entryFetch, stepping}
+use Rattle.card_reader.proofs.RefusalNumbers.{order-numbered, admission-number, entry-number, step-number}
+use Rattle.card_lists.specs.Lists.{listsTests}
+use Rattle.card_lists.proofs.Laws.{lists-numbered}
+use Rattle.card_writer.specs.Writing.{writing}
+use Rattle.card_writer.proofs.RefusalNumbers.{writing-number}
+use Rattle.text_import.specs.Importing.{importing}
+use Rattle.text_import.proofs.RefusalNumbers.{importing-number}
+use Rattle.text_export.specs.Exporting.{exporting}
+use Rattle.text_export.proofs.RefusalNumbers.{exporting-number}
+use Rattle.build_sequence.specs.Many.{Power, two-to, no-build}
+use Rattle.build_sequence.specs.Verdict.{sole, several, noBuild, Outcome, settled, unsettled}
+use Rattle.build_card.specs.Building.{buildTests, lettersAfter, Says, tells, refuses}
+use Rattle.build_card.proofs.CardLaws.{build-only}
+use Rattle.build_narrow.specs.Settling.{listsBuildTests, settleTests, Settled, SettlesInto}
+use Rattle.build_narrow.specs.Settling as settling
+use Rattle.build_narrow.proofs.TestLaws as narrow
+use Rattle.build_count.specs.Counting.{countTests, Counted, OfCard, OfLists, Counts}
+use Rattle.build_count.specs.Counting as counting
+use Rattle.build_count.proofs.CountingLaws.{tests-numbered}
 use Rattle.firmware.specs.declared.building.BuildAnswer.{BuildAnswer}
 use Rattle.firmware.specs.Flat.{admitAnswer, entryAnswer, stepAnswer, heldAnswer, writeAnswer, fastaAnswer}
 use Rattle.firmware.specs.Building.{buildAnswer, Told}
@@ -115,7 +115,7 @@ module _ {limit budget : ℕ} {card before after : List ℕ} {result : BuildAnsw
 -- ---- settling, of a card and of lists
 
 module _ {ts : List Test} {kind l : ℕ} {es : List Slot} {before after : List ℕ} {result : BuildAnswer}
-    (c : Settles buildAnswer (Settled ts kind l es) before result after) where
+    (c : SettlesInto buildAnswer (Settled ts kind l es) before result after) where
   settle-tells : Numbered ts → {n p : ℕ} → first (settleTests kind es ts) sound ≡ refused n p → 0 < result .number
   settle-tells numbered e = rw (c .answer) (go (c .says))
     where
@@ -131,7 +131,7 @@ module _ {ts : List Test} {kind l : ℕ} {es : List Slot} {before after : List �
       go (settling.refuses fails) = absurd (given-not-refused (sym e ∙ fails))
 
 module _ (limit : ℕ) (card before : List ℕ) {after : List ℕ} {result : BuildAnswer}
-    (c : Settles buildAnswer (settling.OfCard limit card (length before)) before result after) where
+    (c : SettlesInto buildAnswer (settling.OfCard limit card (length before)) before result after) where
   pub settle-card-tells : {n p : ℕ}
       → first (settleTests (toldBy card .kind) (slotsOn card) (buildTests limit card (length before))) sound ≡ refused n p
       → 0 < result .number
@@ -142,7 +142,7 @@ module _ (limit : ℕ) (card before : List ℕ) {after : List ℕ} {result : Bui
   settle-card-zero = settle-zero c
 
 module _ (limit kind l : ℕ) (words ones twos before : List ℕ) {after : List ℕ} {result : BuildAnswer}
-    (c : Settles buildAnswer (settling.OfLists limit kind l words ones twos (length before)) before result after) where
+    (c : SettlesInto buildAnswer (settling.OfLists limit kind l words ones twos (length before)) before result after) where
   pub settle-lists-tells : {n p : ℕ}
       → first (settleTests kind (entriesIn words ones twos) (listsBuildTests limit kind l words ones twos (length before))) sound
       ≡ refused n p
@@ -205,7 +205,7 @@ build-untouched {before = before} w h = w .output ∙ letters-untouched (w .said
 
 -- settling, of a card and of lists
 pub settle-untouched : {Says : Answer Outcome → Type 0} {before after : List ℕ} {result : BuildAnswer}
-    → Settles buildAnswer Says before result after
+    → SettlesInto buildAnswer Says before result after
     → 0 < result .number
     → after ≡ before
 settle-untouched {before = before} c h = c .output ∙ letters-untouched (c .said) before (rw (c .answer) at h)

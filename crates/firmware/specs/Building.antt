@@ -3,17 +3,17 @@
 --                         the sequence, or 0 where none is given, and the placements; or the refusal
 --   Told limit card budget before result after
 --                      == the struct `result`, and every byte of the output afterwards
---   flatOf r           == the struct of each case of the enum that `builds` answers with
+--   flatOf r           == the struct of each case of the enum that `build_card` answers with
 -- Assumes nothing.
 use mathlib.Core.Path.{_≡_}
 use mathlib.Core.List.{List}
 use Prim.Native.Nat.{ℕ}
 use lib.ListN.{length}
-use Rattle.answers.specs.Answer.{Answer, given, refused}
-use Rattle.sequence.specs.Verdict.{sole, several, noBuild, Outcome, settled, unsettled}
-use Rattle.builds.specs.Building.{Says, lettersAfter}
-use Rattle.builds.specs.declared.BuildAnswer as builds
-use Rattle.builds.specs.declared.BuildAnswer.the-variants as is
+use Rattle.base_answers.specs.Answer.{Answer, given, refused}
+use Rattle.build_sequence.specs.Verdict.{sole, several, noBuild, Outcome, settled, unsettled}
+use Rattle.build_card.specs.Building.{Says, lettersAfter}
+use Rattle.build_card.specs.declared.BuildAnswer as builds
+use Rattle.build_card.specs.declared.BuildAnswer.the-variants as is
 use Rattle.firmware.specs.declared.building.BuildAnswer.{BuildAnswer}
 
 abbrev pub verdictAnswer : ℕ → ℕ → ℕ → BuildAnswer

@@ -10,13 +10,13 @@
 --   fastaAnswer r      == reading a FASTA record: the lengths of its name and of its letters
 -- Build and the number of builds have their own files, `Building` and `Counting`. Assumes nothing.
 use Prim.Native.Nat.{ℕ, _*_}
-use Rattle.answers.specs.Answer.{Answer, given, refused, Sound, sound}
-use Rattle.block.specs.Block.{blockBytes}
-use Rattle.entries.specs.declared.Format.{Format}
-use Rattle.entries.specs.declared.Entry.{Entry}
-use Rattle.entries.specs.declared.Places.{Places}
-use Rattle.entries.specs.declared.Places.the-variants.{One, Two, Span}
-use Rattle.card.specs.Fetching.{Next, more, end}
+use Rattle.base_answers.specs.Answer.{Answer, given, refused, Sound, sound}
+use Rattle.card_block.specs.Block.{blockBytes}
+use Rattle.card_entries.specs.declared.Format.{Format}
+use Rattle.card_entries.specs.declared.Entry.{Entry}
+use Rattle.card_entries.specs.declared.Places.{Places}
+use Rattle.card_entries.specs.declared.Places.the-variants.{One, Two, Span}
+use Rattle.card_reader.specs.Fetching.{Next, more, end}
 use Rattle.firmware.specs.declared.Shape.{Shape}
 use Rattle.firmware.specs.declared.AdmitAnswer.{AdmitAnswer}
 use Rattle.firmware.specs.declared.EntryAnswer.{EntryAnswer}

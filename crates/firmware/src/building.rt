@@ -1,6 +1,6 @@
 // Build, for C.
 ghost use mathlib.Core.Path.{_≡_};
-ghost use Rattle.layout.specs.Bounds.{mostEntries};
+ghost use Rattle.card_entries.specs.Bounds.{mostEntries};
 ghost use Rattle.firmware.specs.Building.{verdictAnswer, flatOf, Told};
 
 // The verdicts.
@@ -37,15 +37,15 @@ fn told(verdict: usize, length: usize, placements: u32) -> BuildAnswer
 }
 
 // What build or settling answers, as numbers.
-pub fn flat(a: builds::BuildAnswer) -> BuildAnswer
+pub fn flat(a: build_card::BuildAnswer) -> BuildAnswer
     ensures { λ r. ⌜ r ≡ flatOf a ⌝ }
 {
     match a {
-        builds::BuildAnswer::Sole(n, k) => told(SOLE, n, k),
-        builds::BuildAnswer::Several(n, k) => told(SEVERAL, n, k),
-        builds::BuildAnswer::None(k) => told(NONE, 0, k),
-        builds::BuildAnswer::Unsettled(k) => told(UNSETTLED, 0, k),
-        builds::BuildAnswer::Refused(r) => BuildAnswer {
+        build_card::BuildAnswer::Sole(n, k) => told(SOLE, n, k),
+        build_card::BuildAnswer::Several(n, k) => told(SEVERAL, n, k),
+        build_card::BuildAnswer::None(k) => told(NONE, 0, k),
+        build_card::BuildAnswer::Unsettled(k) => told(UNSETTLED, 0, k),
+        build_card::BuildAnswer::Refused(r) => BuildAnswer {
             number: r.number,
             place: r.place,
             verdict: 0,
@@ -61,5 +61,5 @@ pub fn flat(a: builds::BuildAnswer) -> BuildAnswer
 pub extern "C" fn belfrymist_build(card: &[u8], budget: u32, out: &mut [u8]) -> BuildAnswer
     ensures { λ r. ⌜ Told mostEntries (now (card .entry)) budget (now (out .entry)) r (now (out .exit)) ⌝ }
 {
-    flat(builds::build(card, budget, out))
+    flat(build_card::build(card, budget, out))
 }

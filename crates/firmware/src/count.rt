@@ -1,9 +1,9 @@
 // The number of builds, for C.
 ghost use mathlib.Core.Path.{_≡_};
-ghost use Rattle.layout.specs.Bounds.{mostEntries};
-ghost use Rattle.counting.specs.Counting.{OfCard, OfLists, Counts};
+ghost use Rattle.card_entries.specs.Bounds.{mostEntries};
+ghost use Rattle.build_count.specs.Counting.{OfCard, OfLists, Counts};
 ghost use Rattle.firmware.specs.Counting.{countAnswer, flatNumber};
-use counting::Number;
+use build_count::Number;
 
 // How many builds there are. The number is 0 where nothing is refused: then `any` is 1 and there are two to the exponent, or `any` and the
 // exponent are 0 and there is none. Else it is the refusal's, with its place, and the rest is 0.
@@ -46,7 +46,7 @@ fn flat(n: Number) -> CountAnswer
 pub extern "C" fn belfrymist_count(card: &[u8]) -> CountAnswer
     ensures { λ r. ⌜ Counts countAnswer (OfCard mostEntries (now (card .entry))) r ⌝ }
 {
-    flat(counting::count_card(card))
+    flat(build_count::count_card(card))
 }
 
 // The number of builds of lists.
@@ -62,5 +62,5 @@ pub extern "C" fn belfrymist_count_lists(
         Counts countAnswer (OfLists mostEntries kind l (now (words .entry)) (now (ones .entry)) (now (twos .entry))) r
         ⌝ }
 {
-    flat(counting::count_lists(kind, l, words, ones, twos))
+    flat(build_count::count_lists(kind, l, words, ones, twos))
 }

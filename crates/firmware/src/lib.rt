@@ -9,17 +9,17 @@ pub mod settle;
 pub mod writing;
 
 ghost use mathlib.Core.Path.{_≡_};
-ghost use Rattle.answers.specs.Answer.{first, sound};
-ghost use Rattle.block.specs.Block.{fetchTests};
-ghost use Rattle.layout.specs.Bounds.{mostEntries};
-ghost use Rattle.card.specs.Fetching.{admission, entryFetch, stepping};
+ghost use Rattle.base_answers.specs.Answer.{first, sound};
+ghost use Rattle.card_block.specs.Block.{fetchTests};
+ghost use Rattle.card_entries.specs.Bounds.{mostEntries};
+ghost use Rattle.card_reader.specs.Fetching.{admission, entryFetch, stepping};
 ghost use Rattle.firmware.specs.Flat.{shapeOf, admitAnswer, entryAnswer, bareStep, stepAnswer, heldAnswer, partAnswer};
-use answers::Held;
-use card::Admitted;
-use card::EntryFetch;
-use card::Head;
-use card::Stepped;
-use entries::Places;
+use base_answers::Held;
+use card_entries::Places;
+use card_reader::Admitted;
+use card_reader::EntryFetch;
+use card_reader::Head;
+use card_reader::Stepped;
 
 // The shapes of an entry's allowed places.
 const SHAPE_ONE: usize = 1;
@@ -128,7 +128,7 @@ fn bare(number: usize, place: usize) -> StepAnswer
 pub extern "C" fn belfrymist_admit(card: &[u8]) -> AdmitAnswer
     ensures { λ r. ⌜ r ≡ admitAnswer (admission mostEntries (now (card .entry))) ⌝ }
 {
-    match card::admit(card) {
+    match card_reader::admit(card) {
         Admitted::Card(f) => AdmitAnswer {
             number: 0,
             place: 0,
@@ -151,7 +151,7 @@ pub extern "C" fn belfrymist_admit(card: &[u8]) -> AdmitAnswer
 pub extern "C" fn belfrymist_entry(card: &[u8], i: usize) -> EntryAnswer
     ensures { λ r. ⌜ r ≡ entryAnswer (entryFetch mostEntries (now (card .entry)) i) ⌝ }
 {
-    match card::fetch_entry(card, i) {
+    match card_reader::fetch_entry(card, i) {
         EntryFetch::Found(e) => {
             let places = e.places;
             let s = shape_of(places);
@@ -205,7 +205,7 @@ pub extern "C" fn belfrymist_step(card: &[u8], at: usize) -> StepAnswer
 pub extern "C" fn belfrymist_companion(card: &[u8], k: usize) -> HeldAnswer
     ensures { λ r. ⌜ r ≡ heldAnswer (first (fetchTests (now (card .entry)) k) sound) ⌝ }
 {
-    match block::companion(card, k) {
+    match card_block::companion(card, k) {
         Held::Holds => HeldAnswer {
             number: 0,
             place: 0,
@@ -222,12 +222,12 @@ pub extern "C" fn belfrymist_companion(card: &[u8], k: usize) -> HeldAnswer
 pub extern "C" fn belfrymist_fetch(card: &[u8], k: usize) -> PartAnswer
     ensures { λ r. ⌜ r ≡ partAnswer k (first (fetchTests (now (card .entry)) k) sound) ⌝ }
 {
-    let part = block::fetch(card, k);
+    let part = card_block::fetch(card, k);
     if part.len() == 0 {
         return PartAnswer { at: 0, length: 0 };
     }
     PartAnswer {
-        at: block::BLOCK * k,
+        at: card_block::BLOCK * k,
         length: part.len(),
     }
 }

@@ -1,14 +1,14 @@
 // Probe lists, for C.
 ghost use mathlib.Core.Path.{_≡_};
 ghost use lib.ListN.{length};
-ghost use Rattle.layout.specs.Bounds.{mostEntries};
-ghost use Rattle.answers.specs.Answer.{outputAfter};
-ghost use Rattle.importing.specs.Importing.{cardIn, importing};
-ghost use Rattle.exporting.specs.Exporting.{listOf, exporting};
+ghost use Rattle.card_entries.specs.Bounds.{mostEntries};
+ghost use Rattle.base_answers.specs.Answer.{outputAfter};
+ghost use Rattle.text_import.specs.Importing.{cardIn, importing};
+ghost use Rattle.text_export.specs.Exporting.{listOf, exporting};
 ghost use Rattle.firmware.specs.Flat.{writeAnswer};
 use crate::writing;
 use crate::writing::WriteAnswer;
-use exporting::Exported;
+use text_export::Exported;
 
 // A card of the list at the start of the output, whose later bytes are as they were; or the first rule that is broken, and then no byte of
 // the output differs.
@@ -20,7 +20,7 @@ pub extern "C" fn belfrymist_import(list: &[u8], out: &mut [u8]) -> WriteAnswer
         ≡ outputAfter (cardIn (now (list .entry))) (now (out .entry)) (importing mostEntries (now (list .entry)) (length (now (out .entry))))
         ⌝ }
 {
-    writing::flat(importing::import(list, out))
+    writing::flat(text_import::import(list, out))
 }
 
 // The list of a card at the start of the output, whose later bytes are as they were; or the first rule that is broken, and then no byte of
@@ -33,7 +33,7 @@ pub extern "C" fn belfrymist_export(card: &[u8], out: &mut [u8]) -> WriteAnswer
         ≡ outputAfter (listOf (now (card .entry))) (now (out .entry)) (exporting mostEntries (now (card .entry)) (length (now (out .entry))))
         ⌝ }
 {
-    match exporting::export(card, out) {
+    match text_export::export(card, out) {
         Exported::Text(n) => writing::wrote(n),
         Exported::Refused(r) => writing::refused(r),
     }

@@ -1,14 +1,14 @@
 // FASTA records, for C.
 ghost use mathlib.Core.Path.{_≡_};
 ghost use lib.ListN.{length};
-ghost use Rattle.answers.specs.Answer.{outputAfter};
-ghost use Rattle.fasta.specs.Record.{recordOf};
-ghost use Rattle.fasta.specs.Writing.{writing};
-ghost use Rattle.fasta.specs.Reading.{nameIn, bodyIn, lettersIn, reading};
+ghost use Rattle.base_answers.specs.Answer.{outputAfter};
+ghost use Rattle.text_fasta.specs.Record.{recordOf};
+ghost use Rattle.text_fasta.specs.Writing.{writing};
+ghost use Rattle.text_fasta.specs.Reading.{nameIn, bodyIn, lettersIn, reading};
 ghost use Rattle.firmware.specs.Flat.{writeAnswer, fastaAnswer};
 use crate::writing::WriteAnswer;
-use fasta::reading::Parsed;
-use fasta::writing::Recorded;
+use text_fasta::reading::Parsed;
+use text_fasta::writing::Recorded;
 
 // What reading a record answers. The number is 0 for a record that is read, with the lengths of its name and of its letters; else it is the
 // refusal's, with its place, and the rest is 0.
@@ -33,7 +33,7 @@ pub extern "C" fn belfrymist_write_fasta(name: &[u8], letters: &[u8], out: &mut 
         (writing (now (name .entry)) (now (letters .entry)) (length (now (out .entry))))
         ⌝ }
 {
-    match fasta::writing::write(name, letters, out) {
+    match text_fasta::writing::write(name, letters, out) {
         Recorded::Record(n) => crate::writing::wrote(n),
         Recorded::Refused(r) => crate::writing::refused(r),
     }
@@ -63,7 +63,7 @@ pub extern "C" fn belfrymist_read_fasta(
         (reading (now (bytes .entry)) (length (now (name .entry))) (length (now (letters .entry))))
         ⌝ }
 {
-    match fasta::reading::read(bytes, name, letters) {
+    match text_fasta::reading::read(bytes, name, letters) {
         Parsed::Parts(n, k) => FastaAnswer {
             number: 0,
             place: 0,

@@ -1,7 +1,7 @@
 // Settling narrow span cards without a budget, for C. The answer has the struct of build's; it is never unsettled, and placements are 0.
 ghost use lib.ListN.{length};
-ghost use Rattle.layout.specs.Bounds.{mostEntries};
-ghost use Rattle.narrow.specs.Settling.{OfCard, OfLists, Settles};
+ghost use Rattle.card_entries.specs.Bounds.{mostEntries};
+ghost use Rattle.build_narrow.specs.Settling.{OfCard, OfLists, SettlesInto};
 ghost use Rattle.firmware.specs.Building.{buildAnswer};
 use crate::building;
 use crate::building::BuildAnswer;
@@ -11,10 +11,10 @@ use crate::building::BuildAnswer;
 #[no_mangle]
 pub extern "C" fn belfrymist_settle(card: &[u8], out: &mut [u8]) -> BuildAnswer
     ensures { λ r. ⌜
-        Settles buildAnswer (OfCard mostEntries (now (card .entry)) (length (now (out .entry)))) (now (out .entry)) r (now (out .exit))
+        SettlesInto buildAnswer (OfCard mostEntries (now (card .entry)) (length (now (out .entry)))) (now (out .entry)) r (now (out .exit))
         ⌝ }
 {
-    building::flat(narrow::settle_card(card, out))
+    building::flat(build_narrow::settle_card(card, out))
 }
 
 // The same from lists.
@@ -28,10 +28,10 @@ pub extern "C" fn belfrymist_settle_lists(
     out: &mut [u8],
 ) -> BuildAnswer
     ensures { λ r. ⌜
-        Settles buildAnswer
+        SettlesInto buildAnswer
         (OfLists mostEntries kind l (now (words .entry)) (now (ones .entry)) (now (twos .entry)) (length (now (out .entry))))
         (now (out .entry)) r (now (out .exit))
         ⌝ }
 {
-    building::flat(narrow::settle_lists(kind, l, words, ones, twos, out))
+    building::flat(build_narrow::settle_lists(kind, l, words, ones, twos, out))
 }

@@ -1,15 +1,15 @@
 // The writer, for C.
 ghost use mathlib.Core.Path.{_≡_};
 ghost use lib.ListN.{length};
-ghost use Rattle.answers.specs.Answer.{given, refused, outputAfter};
-ghost use Rattle.layout.specs.Bounds.{mostEntries};
-ghost use Rattle.layout.specs.Card.{cardOf};
-ghost use Rattle.lists.specs.Lists.{formatFor};
-ghost use Rattle.writer.specs.Writing.{writing, saysWritten};
-ghost use Rattle.entries.specs.Slot.{slotFrom};
+ghost use Rattle.base_answers.specs.Answer.{given, refused, outputAfter};
+ghost use Rattle.card_entries.specs.Bounds.{mostEntries};
+ghost use Rattle.card_layout.specs.Card.{cardOf};
+ghost use Rattle.card_entries.specs.Hold.{formatFor};
+ghost use Rattle.card_writer.specs.Writing.{writing, saysWritten};
+ghost use Rattle.card_entries.specs.Slot.{slotFrom};
 ghost use Rattle.firmware.specs.Flat.{writeAnswer};
-use answers::Refusal;
-use writer::Written;
+use base_answers::Refusal;
+use card_writer::Written;
 
 // What writing, importing, exporting and writing a FASTA record answer. The number is 0 where a card, a list or a record was written, with its
 // length in bytes; else it is the refusal's, with its place, and the length is 0.
@@ -74,5 +74,5 @@ pub extern "C" fn belfrymist_write(
         (writing mostEntries kind l (now (words .entry)) (now (ones .entry)) (now (twos .entry)) (length (now (out .entry))))
         ⌝ }
 {
-    flat(writer::write(kind, l, words, ones, twos, out))
+    flat(card_writer::write(kind, l, words, ones, twos, out))
 }

@@ -1,16 +1,16 @@
 // The program `settle`: reads a narrow span card from standard input, and prints its two lines or its refusal.
 use libc::STDOUT_FILENO;
-use lines::LINES;
+use program_lines::LINES;
 
 fn main() {
     let usage = b"usage: settle < CARD\n";
-    let card = streams::card::read(0, usage, b"settle: standard input");
+    let card = program_streams::card::read(0, usage, b"settle: standard input");
     if !card.whole {
         return;
     }
     let bytes = card.bytes;
     let n = card.n;
     let mut out = [0u8; LINES];
-    let printed = lines::settle::report(&bytes[..n], &mut out);
-    streams::write(STDOUT_FILENO, &out[..printed], b"settle: standard output");
+    let printed = program_lines::settle::report(&bytes[..n], &mut out);
+    program_streams::write(STDOUT_FILENO, &out[..printed], b"settle: standard output");
 }

@@ -4,10 +4,10 @@ use mathlib.Core.List.{List}
 use Prim.Native.Nat.{ℕ, _≤_}
 use native.Mathlib.Omega.{arith}
 use lib.ListN.{length}
-use Rattle.writer.specs.declared.Written.{Written}
-use Rattle.writer.specs.declared.Written.the-variants.{Card, Refused}
-use Rattle.writer.specs.Writing.{Writes}
-use Rattle.writer.proofs.WritingLaws.{wrote-room, wrote-size}
+use Rattle.card_writer.specs.declared.Written.{Written}
+use Rattle.card_writer.specs.declared.Written.the-variants.{Card, Refused}
+use Rattle.card_writer.specs.Writing.{Writes}
+use Rattle.card_writer.proofs.WritingLaws.{wrote-room, wrote-size}
 use Rattle.vectors.specs.declared.writing.Wrote.{Wrote}
 use Rattle.vectors.specs.declared.writing.Wrote.the-variants.{Is}
 use Rattle.vectors.specs.Within.{cardWithin, Within}

@@ -3,8 +3,8 @@
 --   Within room r       == the same of what reading lists and writing them comes to, r
 -- Assumes nothing.
 use Prim.Native.Nat.{ℕ, _≤_}
-use Rattle.writer.specs.declared.Written.{Written}
-use Rattle.writer.specs.declared.Written.the-variants.{Card, Refused}
+use Rattle.card_writer.specs.declared.Written.{Written}
+use Rattle.card_writer.specs.declared.Written.the-variants.{Card, Refused}
 use Rattle.vectors.specs.declared.writing.Wrote.{Wrote}
 use Rattle.vectors.specs.declared.writing.Wrote.the-variants.{Is, Cut}
 

@@ -5,11 +5,11 @@ ghost use Prim.Native.Nat.{_≤_};
 ghost use lib.ListN.{length};
 use crate::writing;
 use crate::writing::Wrote;
-use records::input;
-use records::input::FIELDS;
-use records::lent::SLOTS;
-use records::output;
-use writer::Written;
+use card_writer::Written;
+use test_records::input;
+use test_records::input::FIELDS;
+use test_records::lent::SLOTS;
+use test_records::output;
 
 // What a record leaves: how many bytes the card has, and whether there is more to read.
 pub struct Turn {
@@ -42,7 +42,7 @@ pub fn set_card(card: &mut [u8], n: usize) -> Turn
 pub fn write_card(card: &mut [u8], fields: &[u8; FIELDS]) -> Turn
     ensures { λ r. ⌜ r .n ≤ length (now (card .exit)) ⌝ }
 {
-    let m = block::two_at(fields, 16) as usize;
+    let m = card_block::two_at(fields, 16) as usize;
     if SLOTS < m {
         return bad();
     }

@@ -29,11 +29,11 @@ mod writing;
 
 ghost use Prim.Native.Nat.{_≤_};
 ghost use lib.ListN.{length};
-ghost use Rattle.records.specs.Record.{fieldBytes};
+ghost use Rattle.test_records.specs.Record.{fieldBytes};
 use cards::Turn;
-use records::input;
-use records::input::FIELDS;
-use records::output;
+use test_records::input;
+use test_records::input::FIELDS;
+use test_records::output;
 
 // The most bytes of a card.
 const MOST: usize = 6144;
@@ -89,7 +89,7 @@ fn run(tag: u8, fields: &[u8; FIELDS], card: &mut [u8], n: usize) -> Turn
     ensures { λ r. ⌜ r .n ≤ length (now (card .exit)) ⌝ }
 {
     if tag == b'C' {
-        return cards::set_card(card, block::four_at(fields, 0) as usize);
+        return cards::set_card(card, card_block::four_at(fields, 0) as usize);
     }
     if tag == b'G' {
         return cards::write_card(card, fields);

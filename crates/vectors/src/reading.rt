@@ -1,16 +1,16 @@
 // The records that read the card, and the line that each prints.
-use answers::Held;
-use card::Admitted;
-use card::EntryFetch;
-use card::Head;
-use card::Stepped;
-use entries::Entry;
-use entries::Places;
-use records::hashes;
-use records::input;
-use records::input::FIELDS;
-use records::lent;
-use records::output;
+use base_answers::Held;
+use card_entries::Entry;
+use card_entries::Places;
+use card_reader::Admitted;
+use card_reader::EntryFetch;
+use card_reader::Head;
+use card_reader::Stepped;
+use test_records::hashes;
+use test_records::input;
+use test_records::input::FIELDS;
+use test_records::lent;
+use test_records::output;
 
 // What admitting answers: the card's kind, l and m, after a name, or the refusal.
 fn admitted(a: Admitted, name: &[u8]) {
@@ -33,12 +33,12 @@ fn entry(name: &[u8], e: Entry) {
 
 // Admits the card.
 pub fn admit(card: &[u8]) {
-    admitted(card::admit(card), b"admit")
+    admitted(card_reader::admit(card), b"admit")
 }
 
 // Fetches entry i.
 pub fn fetch_entry(card: &[u8], i: usize) {
-    match card::fetch_entry(card, i) {
+    match card_reader::fetch_entry(card, i) {
         EntryFetch::Found(e) => entry(b"entry", e),
         EntryFetch::Refused(r) => output::refused(r),
     }
@@ -59,13 +59,13 @@ pub fn step(card: &[u8], at: usize) {
 
 // Fetches block k.
 pub fn fetch(card: &[u8], k: usize) {
-    let part = block::fetch(card, k);
+    let part = card_block::fetch(card, k);
     output::two(b"part", part.len(), hashes::of_bytes(part))
 }
 
 // Asks the companion of block k.
 pub fn companion(card: &[u8], k: usize) {
-    match block::companion(card, k) {
+    match card_block::companion(card, k) {
         Held::Holds => output::text(b"holds"),
         Held::Refused(r) => output::refused(r),
     }
@@ -73,7 +73,7 @@ pub fn companion(card: &[u8], k: usize) {
 
 // Admits the card into the lists, and tells what they hold afterwards.
 fn list(card: &[u8], words: &mut [u32], ones: &mut [u16], twos: &mut [u16]) {
-    let a = card::listing::admit_into(card, words, ones, twos);
+    let a = card_reader::listing::admit_into(card, words, ones, twos);
     let x = hashes::of_words(words);
     let y = hashes::of_places(ones);
     let z = hashes::of_places(twos);
@@ -85,9 +85,9 @@ fn list(card: &[u8], words: &mut [u32], ones: &mut [u16], twos: &mut [u16]) {
 
 // Admits the card into lists of as many slots as the fields say, and answers whether there can be such lists.
 pub fn admit_into(card: &[u8], fields: &[u8; FIELDS]) -> bool {
-    let a = block::two_at(fields, 0) as usize;
-    let b = block::two_at(fields, 2) as usize;
-    let c = block::two_at(fields, 4) as usize;
+    let a = card_block::two_at(fields, 0) as usize;
+    let b = card_block::two_at(fields, 2) as usize;
+    let c = card_block::two_at(fields, 4) as usize;
     if !input::are_few(a, b, c) {
         return false;
     }

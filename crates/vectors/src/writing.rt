@@ -1,16 +1,16 @@
 // The records that write a card, of their own lists or of what the card holds, and the line that each prints.
 ghost use Prim.Native.Nat.{_≤_};
 ghost use lib.ListN.{length};
-ghost use Rattle.records.specs.Record.{slots};
+ghost use Rattle.test_records.specs.Record.{slots};
 ghost use Rattle.vectors.specs.Within.{Within};
-use card::Admitted;
-use entries::Format;
-use records::input;
-use records::input::FIELDS;
-use records::lent;
-use records::lent::ROOM;
-use records::output;
-use writer::Written;
+use card_entries::Format;
+use card_reader::Admitted;
+use card_writer::Written;
+use test_records::input;
+use test_records::input::FIELDS;
+use test_records::lent;
+use test_records::lent::ROOM;
+use test_records::output;
 
 // What writing a card of lists comes to, or that the input ends before they do.
 pub enum Wrote {
@@ -39,7 +39,7 @@ pub fn write_lists(fields: &[u8; FIELDS], a: usize, b: usize, c: usize, out: &mu
     let words = read.words;
     let ones = read.ones;
     let twos = read.twos;
-    Wrote::Is(writer::write(
+    Wrote::Is(card_writer::write(
         input::eight_at(fields, 0),
         input::eight_at(fields, 8),
         &words[..a],
@@ -62,10 +62,10 @@ fn write_told(fields: &[u8; FIELDS], a: usize, b: usize, c: usize, out: &mut [u8
 
 // The same with lists of as many slots, and an output of as many bytes, as the fields say, where there can be such.
 pub fn of_lists(fields: &[u8; FIELDS]) -> bool {
-    let a = block::two_at(fields, 16) as usize;
-    let b = block::two_at(fields, 18) as usize;
-    let c = block::two_at(fields, 20) as usize;
-    let room = block::two_at(fields, 22) as usize;
+    let a = card_block::two_at(fields, 16) as usize;
+    let b = card_block::two_at(fields, 18) as usize;
+    let c = card_block::two_at(fields, 20) as usize;
+    let room = card_block::two_at(fields, 22) as usize;
     if !input::are_few(a, b, c) {
         return false;
     }
@@ -81,14 +81,14 @@ fn write_first(f: Format, words: &[u32], ones: &[u16], twos: &[u16], out: &mut [
     requires { ⌜ (f .m ≤ length (now words)) × (f .m ≤ length (now ones)) × (f .m ≤ length (now twos)) ⌝ }
 {
     let m = f.m;
-    let w = writer::write(f.kind, f.l, &words[..m], &ones[..m], &twos[..m], out);
+    let w = card_writer::write(f.kind, f.l, &words[..m], &ones[..m], &twos[..m], out);
     tell(w, out)
 }
 
 // Admits the card into lists, and writes it again of what they hold then, into an output of as many bytes as the fields say; answers whether
 // there can be such an output.
 pub fn again(card: &[u8], fields: &[u8; FIELDS]) -> bool {
-    let room = block::two_at(fields, 0) as usize;
+    let room = card_block::two_at(fields, 0) as usize;
     if ROOM < room {
         return false;
     }
@@ -96,7 +96,7 @@ pub fn again(card: &[u8], fields: &[u8; FIELDS]) -> bool {
     let mut ones = lent::places();
     let mut twos = lent::places();
     let mut out = lent::bytes();
-    match card::listing::admit_into(card, &mut words, &mut ones, &mut twos) {
+    match card_reader::listing::admit_into(card, &mut words, &mut ones, &mut twos) {
         Admitted::Card(f) => write_first(f, &words, &ones, &twos, &mut out[..room]),
         Admitted::Refused(r) => tell(Written::Refused(r), &out[..room]),
     }

@@ -1,6 +1,6 @@
 -- `firmware::belfrymist_admit` meets its contract: each case of the card's answer, as numbers. Assumes nothing.
 use borrow.Author.Needs.{needs}
-use Rattle.card.specs.Fetching.{saysAdmitted}
+use Rattle.card_reader.specs.Fetching.{saysAdmitted}
 use Rattle.firmware.specs.Flat.{admitAnswer}
 use Rattle.firmware.proofs.Laws.{told}
 use Rattle.firmware.proofs.belfrymist_admit.Statement.{statement}

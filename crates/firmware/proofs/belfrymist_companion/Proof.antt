@@ -1,6 +1,6 @@
 -- `firmware::belfrymist_companion` meets its contract: each case of the companion's answer, as numbers. Assumes nothing.
 use borrow.Author.Needs.{needs}
-use Rattle.answers.specs.Answer.{saysHeld}
+use Rattle.base_answers.specs.Answer.{saysHeld}
 use Rattle.firmware.specs.Flat.{heldAnswer}
 use Rattle.firmware.proofs.Laws.{told}
 use Rattle.firmware.proofs.belfrymist_companion.Statement.{statement}

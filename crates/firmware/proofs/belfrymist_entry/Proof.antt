@@ -1,7 +1,7 @@
 -- `firmware::belfrymist_entry` meets its contract: each case of the card's answer, as numbers. Assumes nothing.
 use borrow.Author.Needs.{needs}
 use mathlib.Core.Path.{_∙_}
-use Rattle.card.specs.Fetching.{saysFetched}
+use Rattle.card_reader.specs.Fetching.{saysFetched}
 use Rattle.firmware.specs.Flat.{entryAnswer}
 use Rattle.firmware.proofs.Laws.{told, entry-flat}
 use Rattle.firmware.proofs.belfrymist_entry.Statement.{statement}

@@ -1,7 +1,7 @@
 -- `firmware::belfrymist_step` meets its contract: each case of the head's answer, as numbers. Assumes nothing.
 use borrow.Author.Needs.{needs}
 use mathlib.Core.Path.{_∙_}
-use Rattle.card.specs.Fetching.{saysStepped}
+use Rattle.card_reader.specs.Fetching.{saysStepped}
 use Rattle.firmware.specs.Flat.{stepAnswer}
 use Rattle.firmware.proofs.Laws.{told, step-flat}
 use Rattle.firmware.proofs.belfrymist_step.Statement.{statement}

@@ -3,7 +3,7 @@
 use mathlib.Core.Path.{sym}
 use lib.Seq.{length-take-le}
 use borrow.Author.Needs.{needs}
-use Rattle.text.proofs.PrintedLaws.{printed-fits}
+use Rattle.base_text.proofs.PrintedLaws.{printed-fits}
 use Rattle.list2card.proofs.main.Statement.{statement}
 use Rattle.list2card.proofs.main.Tie as tie
 

@@ -2,13 +2,13 @@
 use mathlib.Core.Path.{sym}
 use lib.Seq.{length-take-le}
 use borrow.Author.Needs.{needs}
-use Rattle.text.proofs.PrintedLaws.{printed-fits}
+use Rattle.base_text.proofs.PrintedLaws.{printed-fits}
 use Rattle.settle.proofs.main.Statement.{statement}
 use Rattle.settle.proofs.main.Tie as tie
 
 -- the card was read
 abbrev card-read : tie.After-bytes2 → tie.After-read
-card-read c = c .before .before .before .before
+card-read c = let whole = c .before .before in whole .before .before
 
 slice-aggregate-read : tie.Need-slice-aggregate-read
 slice-aggregate-read c = search needs

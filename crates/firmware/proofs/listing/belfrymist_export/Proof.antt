@@ -1,11 +1,14 @@
 -- `belfrymist_export` meets its contract: each case of the answer of `export`, as numbers, with the output as that left it. Assumes nothing.
 use mathlib.Core.Path.{_∙_}
-use Rattle.exporting.specs.Exporting.{saysExported}
+use Rattle.text_export.specs.Exporting.{saysExported}
 use Rattle.firmware.specs.Flat.{writeAnswer}
 use Rattle.firmware.proofs.Laws.{told}
 use borrow.Author.Needs.{needs}
 use Rattle.firmware.proofs.listing.belfrymist_export.Statement.{statement}
 use Rattle.firmware.proofs.listing.belfrymist_export.Tie as tie
+
+abbrev exported : tie.After-slice-known2 → tie.After-export
+exported c = c .before .before
 
 export-requires : tie.Need-export-requires
 export-requires c κs = search needs
@@ -27,16 +30,18 @@ same-length c = search needs
 
 returns : tie.Need-returns
 returns c =
-    let did = c .before .before .before .before .before .before .export .ensures in
-    (c .wrote .ensures ∙ told saysExported writeAnswer (did .answer) (c .before .before .n .given .1), did .bytes)
+    let case = c .before .before in
+    let did = exported (case .before .before) .export .ensures in
+    (c .wrote .ensures ∙ told saysExported writeAnswer (did .answer) (case .n .given .1), did .bytes)
 
 same-length-2 : tie.Need-same-length-2
 same-length-2 c = search needs
 
 returns-2 : tie.Need-returns-2
 returns-2 c =
-    let did = c .before .before .before .before .before .before .export .ensures in
-    (c .refused .ensures ∙ told saysExported writeAnswer (did .answer) (c .before .before .r .given .1), did .bytes)
+    let case = c .before .before in
+    let did = exported (case .before .before) .export .ensures in
+    (c .refused .ensures ∙ told saysExported writeAnswer (did .answer) (case .r .given .1), did .bytes)
 
 pub belfrymist-export-spec : {M : Type 1} → statement M
 belfrymist-export-spec =

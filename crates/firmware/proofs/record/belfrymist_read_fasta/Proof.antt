@@ -1,10 +1,13 @@
 -- `belfrymist_read_fasta` meets its contract: each case of the answer of `read`, as numbers, with the outputs as that left them. Assumes nothing.
-use Rattle.fasta.specs.Reading.{saysParsed}
+use Rattle.text_fasta.specs.Reading.{saysParsed}
 use Rattle.firmware.specs.Flat.{fastaAnswer}
 use Rattle.firmware.proofs.Laws.{told}
 use borrow.Author.Needs.{needs}
 use Rattle.firmware.proofs.record.belfrymist_read_fasta.Statement.{statement}
 use Rattle.firmware.proofs.record.belfrymist_read_fasta.Tie as tie
+
+abbrev parsed : tie.After-slice-known4 → tie.After-read
+parsed c = let name = c .before .before in name .before .before
 
 read-requires : tie.Need-read-requires
 read-requires c κs = search needs
@@ -23,8 +26,9 @@ same-length-2 c = search needs
 
 returns : tie.Need-returns
 returns c =
-    let did = c .before .before .before .before .before .before .before .read .ensures in
-    (told saysParsed fastaAnswer (did .answer) (c .before .n .given .1), (did .in-name, did .in-letters))
+    let case = c .before in
+    let did = parsed (case .before .before) .read .ensures in
+    (told saysParsed fastaAnswer (did .answer) (case .n .given .1), (did .in-name, did .in-letters))
 
 same-length-3 : tie.Need-same-length-3
 same-length-3 c = search needs
@@ -34,8 +38,9 @@ same-length-4 c = search needs
 
 returns-2 : tie.Need-returns-2
 returns-2 c =
-    let did = c .before .before .before .before .before .before .before .read .ensures in
-    (told saysParsed fastaAnswer (did .answer) (c .before .r .given .1), (did .in-name, did .in-letters))
+    let case = c .before in
+    let did = parsed (case .before .before) .read .ensures in
+    (told saysParsed fastaAnswer (did .answer) (case .r .given .1), (did .in-name, did .in-letters))
 
 pub belfrymist-read-fasta-spec : {M : Type 1} → statement M
 belfrymist-read-fasta-spec =

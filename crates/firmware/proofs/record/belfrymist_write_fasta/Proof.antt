@@ -1,11 +1,14 @@
 -- `belfrymist_write_fasta` meets its contract: each case of the answer of `write`, as numbers, with the output as that left it. Assumes nothing.
 use mathlib.Core.Path.{_∙_}
-use Rattle.fasta.specs.Writing.{saysRecorded}
+use Rattle.text_fasta.specs.Writing.{saysRecorded}
 use Rattle.firmware.specs.Flat.{writeAnswer}
 use Rattle.firmware.proofs.Laws.{told}
 use borrow.Author.Needs.{needs}
 use Rattle.firmware.proofs.record.belfrymist_write_fasta.Statement.{statement}
 use Rattle.firmware.proofs.record.belfrymist_write_fasta.Tie as tie
+
+abbrev written : tie.After-slice-known2 → tie.After-write
+written c = c .before .before
 
 write-requires : tie.Need-write-requires
 write-requires c κs = search needs
@@ -28,7 +31,7 @@ same-length c = search needs
 returns : tie.Need-returns
 returns c =
     let case = c .before .before in
-    let did = case .before .before .before .before .write .ensures in
+    let did = written (case .before .before) .write .ensures in
     (c .wrote .ensures ∙ told saysRecorded writeAnswer (did .answer) (case .n .given .1), did .bytes)
 
 same-length-2 : tie.Need-same-length-2
@@ -37,7 +40,7 @@ same-length-2 c = search needs
 returns-2 : tie.Need-returns-2
 returns-2 c =
     let case = c .before .before in
-    let did = case .before .before .before .before .write .ensures in
+    let did = written (case .before .before) .write .ensures in
     (c .refused .ensures ∙ told saysRecorded writeAnswer (did .answer) (case .r .given .1), did .bytes)
 
 pub belfrymist-write-fasta-spec : {M : Type 1} → statement M

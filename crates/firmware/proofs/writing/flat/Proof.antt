@@ -1,6 +1,6 @@
 -- `firmware::writing::flat` meets its contract: each case of the writer's answer, as numbers. Assumes nothing.
 use mathlib.Core.Path.{sym, ap, _∙_}
-use Rattle.writer.specs.Writing.{saysWritten}
+use Rattle.card_writer.specs.Writing.{saysWritten}
 use Rattle.firmware.specs.Flat.{writeAnswer}
 use borrow.Author.Needs.{needs}
 use Rattle.firmware.proofs.writing.flat.Statement.{statement}

@@ -57,7 +57,8 @@ returns-4 : tie.Need-returns-4
 returns-4 c =
     let found = c .before in
     let read = found .before .before .before in
-    let within = within-card (read .before .before .before .before .write-lists .ensures) (read .w .given .1) (found .w2 .given .1) in
+    let lent = read .before in
+    let within = within-card (lent .before .before .before .write-lists .ensures) (read .w .given .1) (found .w2 .given .1) in
     omega (arith, within)
 
 pub write-card-spec : {M : Type 1} → statement M

@@ -4,7 +4,7 @@ use native.Mathlib.Omega.{arith}
 use lib.ListN.{length-take}
 use borrow.Author.Tests.{not-false}
 use borrow.Author.Needs.{needs}
-use Rattle.records.specs.Record.{slots}
+use Rattle.test_records.specs.Record.{slots}
 use Rattle.vectors.proofs.reading.admit_into.Statement.{statement}
 use Rattle.vectors.proofs.reading.admit_into.Tie as tie
 
@@ -16,10 +16,13 @@ module _ (c : tie.Else1) where
   abbrev sized : tie.After-two-at3
   sized = c .before .before
 
+  abbrev second : tie.After-two-at2
+  second = sized .before .before
+
   -- a record can have as many
   few :
-      (sized .before .before .before .before .two-at .result ≤ slots)
-      × (sized .before .before .two-at2 .result ≤ slots)
+      (second .before .before .two-at .result ≤ slots)
+      × (second .two-at2 .result ≤ slots)
       × (sized .two-at3 .result ≤ slots)
   few = let asked = c .before .are-few in asked .ensures .0 (not-false (asked .result) (c .if1 .left))
 

@@ -1,8 +1,8 @@
 -- `vectors::writing::again` is safe: the output is a part of its array, and a card that was listed found room in the lists
 -- (`listed-fits`). Assumes nothing.
 use mathlib.Core.Path.{ap}
-use Rattle.card.specs.Fetching.{saysAdmitted}
-use Rattle.card.proofs.ListingLaws.{listed-fits}
+use Rattle.card_reader.specs.Fetching.{saysAdmitted}
+use Rattle.card_reader.proofs.ListingLaws.{listed-fits}
 use native.Mathlib.Omega.{arith}
 use lib.ListN.{length-take}
 use borrow.Author.Needs.{needs}
@@ -62,8 +62,10 @@ slice-aggregate-write-first-4 c = simp length-take (omega arith)
 
 write-first-requires : tie.Need-write-first-requires
 write-first-requires c κs =
-    let admitted = c .before .before .before .before .before in
-    let did = admitted .before .before .before .before .before in
+    let lent = c .before .before .before in
+    let admitted = lent .before .before in
+    let lists = admitted .before .before in
+    let did = lists .before .before .before in
     let fits = listed-fits (did .admit-into .ensures) (ap saysAdmitted (admitted .f .given .1)) in
     omega (arith, fits .in-words, fits .in-ones, fits .in-twos)
 

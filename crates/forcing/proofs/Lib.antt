@@ -1,2 +1,0 @@
--- `Rooted` has the laws of a place with one entry left.
-pub mod Rooted

@@ -1,0 +1,49 @@
+-- `unbroken` meets its contract: the bytes so far are no newlines (`Led`). Assumes nothing.
+use borrow.Author.Needs.{needs}
+use Prim.Native.Nat.{_-_}
+use Rattle.text_fasta.specs.Reading.{noBreak}
+use Rattle.text_fasta.proofs.LeadingLaws.{Led, led-none, led-turn, led-stop, led-all}
+use Rattle.text_fasta.proofs.BodyLaws.{is-break, no-break}
+use Rattle.text_fasta.proofs.reading.unbroken.Statement.{statement}
+use Rattle.text_fasta.proofs.reading.unbroken.Tie as tie
+
+abbrev Inv-loop : tie.InvT-loop
+Inv-loop bytes n i₀ i = Led noBreak bytes i
+
+abbrev μ-loop : tie.MeasureT-loop
+μ-loop bytes n i₀ i = n - i
+
+loop-holds : tie.Need-loop-holds Inv-loop μ-loop
+loop-holds c = led-none
+
+shared-slice-read-if1 : tie.Need-shared-slice-read-if1 Inv-loop μ-loop
+shared-slice-read-if1 c = search needs
+
+returns : tie.Need-returns Inv-loop μ-loop
+returns c = let turn = c .before .before in led-stop (turn .before .loop .inv) (turn .loop-test .taken) (is-break _ (c .if1 .taken))
+
+add-i : tie.Need-add-i Inv-loop μ-loop
+add-i c = search needs
+
+loop-less : tie.Need-loop-less Inv-loop μ-loop
+loop-less c = search needs
+
+loop-again : tie.Need-loop-again Inv-loop μ-loop
+loop-again c = let turn = c .before .before in led-turn (turn .before .loop .inv) (turn .loop-test .taken) (no-break _ (c .if1 .left))
+
+returns-2 : tie.Need-returns-2 Inv-loop μ-loop
+returns-2 c = led-all (c .before .loop .inv) (c .loop-test .left)
+
+pub unbroken-spec : {M : Type 1} → statement M
+unbroken-spec =
+    tie.close
+    (tie.spec
+    Inv-loop
+    μ-loop
+    loop-holds
+    shared-slice-read-if1
+    returns
+    add-i
+    loop-less
+    loop-again
+    returns-2)
