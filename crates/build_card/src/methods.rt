@@ -1,4 +1,4 @@
-// The walk over lists that hold, with lists of its own to work in, and the method that a card's kind takes.
+// The method that a card's kind takes, over lists that hold.
 ghost use Prim.Native.Nat.{_≤_};
 ghost use lib.ListN.{length, take};
 ghost use Rattle.card_entries.specs.Slot.{entriesIn};

@@ -1,6 +1,6 @@
 // What one placement forces on a pair card, over lists: an entry that is put at a place excludes others from it and from the two places
 // beside it, they go to their other places, and so on, until nothing more is forced or something clashes. Nothing here knows a byte of a
-// card: `card_reader` is the list of its entries, three numbers for each slot, as specs/Following.antt says. The `pub` functions have a
+// card: `card` is the list of its entries, three numbers for each slot, as specs/Following.antt says. The `pub` functions have a
 // `requires`: their callers have admitted the entries and made that list.
 ghost use mathlib.Core.Path.{_≡_};
 ghost use mathlib.Core.Bool.{true, false};

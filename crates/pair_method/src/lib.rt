@@ -166,7 +166,7 @@ fn from_card(card: &[usize], mask: u32, words: &mut [u32]) -> FreeChoices
     )
 }
 
-// The same from the lists of a card; `card_reader` is for work.
+// The same from the lists of a card; `card` is for work.
 fn from_lists(
     l: usize,
     words: &[u32],
