@@ -1,14 +1,14 @@
 // What an operation that tests its input answers with, and the numbers of the refusals.
 
 // A refusal: which rule is broken, and where.
-#[derive(Drop)]
+#[derive(Clone, Copy)]
 pub struct Refusal {
     pub number: usize,
     pub place: usize,
 }
 
 // Whether every test held; else the refusal of the first that failed.
-#[derive(Drop)]
+#[derive(Clone, Copy)]
 pub enum Held {
     Holds,
     Refused(Refusal),

@@ -8,7 +8,7 @@ const CODES: usize = 4;
 const LETTERS: [u8; CODES] = [b'A', b'C', b'G', b'T'];
 
 // What reading a byte answers: the code that it is the letter of, or that it is no letter.
-#[derive(Drop)]
+#[derive(Clone, Copy)]
 pub enum Code {
     Is(usize),
     NoLetter,

@@ -19,7 +19,7 @@ use card_reader::Admitted;
 
 // What build answers: the length of the sequence and the placements, the placements alone, or the refusal. The sequence stands in the
 // output.
-#[derive(Drop)]
+#[derive(Clone, Copy)]
 pub enum BuildAnswer {
     Sole(usize, u32),
     Several(usize, u32),

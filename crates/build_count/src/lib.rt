@@ -15,7 +15,7 @@ use card_reader::Admitted;
 use pair_method::FreeChoices;
 
 // The number of builds: two to a power, none, or the refusal.
-#[derive(Drop)]
+#[derive(Clone, Copy)]
 pub enum Number {
     Power(usize),
     None,

@@ -1,7 +1,7 @@
 // What a method answers, whichever it is: the walk on span cards, the method for pair cards, and the one for narrow spans.
 
 // One build, several, none, or that it is unsettled, each with its placements.
-#[derive(Drop)]
+#[derive(Clone, Copy)]
 pub enum MethodAnswer {
     Sole(u32),
     Several(u32),

@@ -11,14 +11,14 @@ pub const CHECK_AT: usize = 510;
 const MODULUS: u32 = 255;
 
 // a and b of some bytes. In the code their remainders are not yet taken.
-#[derive(Drop)]
+#[derive(Clone, Copy)]
 pub struct Sums {
     pub a: u32,
     pub b: u32,
 }
 
 // The two check bytes of a block, as they stand.
-#[derive(Drop)]
+#[derive(Clone, Copy)]
 pub struct CheckBytes {
     pub first: u8,
     pub second: u8,

@@ -33,7 +33,7 @@ const WORDS: [u32; MOST_LENGTH + 1] = [
 ];
 
 // What a card says of all its entries: its kind, the letters of a word and the number of entries.
-#[derive(Drop)]
+#[derive(Clone, Copy)]
 pub struct Format {
     pub kind: usize,
     pub l: usize,
@@ -41,7 +41,7 @@ pub struct Format {
 }
 
 // An entry as it is stored.
-#[derive(Drop)]
+#[derive(Clone, Copy)]
 pub struct Slot {
     pub word: u32,
     pub one: u16,
@@ -49,7 +49,7 @@ pub struct Slot {
 }
 
 // The allowed places of an entry: one place, two places, or a span from its first place to its last.
-#[derive(Drop)]
+#[derive(Clone, Copy)]
 pub enum Places {
     One(u16),
     Two(u16, u16),
@@ -57,7 +57,7 @@ pub enum Places {
 }
 
 // An entry: its word, and its allowed places.
-#[derive(Drop)]
+#[derive(Clone, Copy)]
 pub struct Entry {
     pub word: u32,
     pub places: Places,

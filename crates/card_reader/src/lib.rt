@@ -11,27 +11,27 @@ use base_answers::{Held, Refusal};
 use card_entries::{Entry, Format};
 
 // What admitting answers: the kind, l and m, or the refusal.
-#[derive(Drop)]
+#[derive(Clone, Copy)]
 pub enum Admitted {
     Card(Format),
     Refused(Refusal),
 }
 
 // What fetching an entry answers.
-#[derive(Drop)]
+#[derive(Clone, Copy)]
 pub enum EntryFetch {
     Found(Entry),
     Refused(Refusal),
 }
 
 // A reading head: the index of the entry that the next step hands back, from 0.
-#[derive(Drop)]
+#[derive(Clone, Copy)]
 pub struct Head {
     pub at: usize,
 }
 
 // What a step of a reading head answers: the entry with the head moved one on, or that the end is reached.
-#[derive(Drop)]
+#[derive(Clone, Copy)]
 pub enum Stepped {
     More(Entry, Head),
     End,

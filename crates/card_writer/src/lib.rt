@@ -15,7 +15,7 @@ use card_block::BLOCK;
 use card_entries::Format;
 
 // What writing answers: the card's length in bytes, or the refusal.
-#[derive(Drop)]
+#[derive(Clone, Copy)]
 pub enum Written {
     Card(usize),
     Refused(Refusal),

@@ -15,7 +15,7 @@ const UNSETTLED: usize = 4;
 // What build answers, and settling. The number is 0 where nothing is refused, with the verdict, the length of the sequence, which is 0 where none is
 // given, and the placements; else it is the refusal's, with its place, and the rest is 0.
 #[repr(C)]
-#[derive(Drop)]
+#[derive(Clone, Copy)]
 pub struct BuildAnswer {
     pub number: usize,
     pub place: usize,

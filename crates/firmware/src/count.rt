@@ -9,7 +9,7 @@ use build_count::Number;
 // How many builds there are. The number is 0 where nothing is refused: then `any` is 1 and there are two to the exponent, or `any` and the
 // exponent are 0 and there is none. Else it is the refusal's, with its place, and the rest is 0.
 #[repr(C)]
-#[derive(Drop)]
+#[derive(Clone, Copy)]
 pub struct CountAnswer {
     pub number: usize,
     pub place: usize,

@@ -27,7 +27,7 @@ const SHAPE_TWO: usize = 2;
 const SHAPE_SPAN: usize = 3;
 
 // The allowed places of an entry as numbers: the shape, and the places that it has; the second is 0 where there is one place.
-#[derive(Drop)]
+#[derive(Clone, Copy)]
 struct Shape {
     shape: usize,
     first: usize,
@@ -37,7 +37,7 @@ struct Shape {
 // What admitting answers. The number is 0 for a card that is admitted, with its kind, l and m; else it is the refusal's, with its place,
 // and the rest is 0.
 #[repr(C)]
-#[derive(Drop)]
+#[derive(Clone, Copy)]
 pub struct AdmitAnswer {
     pub number: usize,
     pub place: usize,
@@ -49,7 +49,7 @@ pub struct AdmitAnswer {
 // What fetching an entry answers. The number is 0 for an entry that is found, with its shape, its word and its places; else it is the
 // refusal's, with its place, and the rest is 0.
 #[repr(C)]
-#[derive(Drop)]
+#[derive(Clone, Copy)]
 pub struct EntryAnswer {
     pub number: usize,
     pub place: usize,
@@ -62,7 +62,7 @@ pub struct EntryAnswer {
 // What a step of a reading head answers: the entry, and where the head stands then. At the end all of it is 0; on a refusal all of it is
 // but the number and the place.
 #[repr(C)]
-#[derive(Drop)]
+#[derive(Clone, Copy)]
 pub struct StepAnswer {
     pub number: usize,
     pub place: usize,
@@ -75,7 +75,7 @@ pub struct StepAnswer {
 
 // What the companion of a fetch answers: 0 and 0 where the fetch holds, else the refusal's number and place.
 #[repr(C)]
-#[derive(Drop)]
+#[derive(Clone, Copy)]
 pub struct HeldAnswer {
     pub number: usize,
     pub place: usize,
@@ -83,7 +83,7 @@ pub struct HeldAnswer {
 
 // What fetching a block answers: where in the card the block's bytes start, and how many there are; 0 and 0 where the companion refuses.
 #[repr(C)]
-#[derive(Drop)]
+#[derive(Clone, Copy)]
 pub struct PartAnswer {
     pub at: usize,
     pub length: usize,

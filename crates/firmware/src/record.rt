@@ -13,7 +13,7 @@ use text_fasta::writing::Recorded;
 // What reading a record answers. The number is 0 for a record that is read, with the lengths of its name and of its letters; else it is the
 // refusal's, with its place, and the rest is 0.
 #[repr(C)]
-#[derive(Drop)]
+#[derive(Clone, Copy)]
 pub struct FastaAnswer {
     pub number: usize,
     pub place: usize,

@@ -14,7 +14,7 @@ use card_writer::Written;
 // What writing, importing, exporting and writing a FASTA record answer. The number is 0 where a card, a list or a record was written, with its
 // length in bytes; else it is the refusal's, with its place, and the length is 0.
 #[repr(C)]
-#[derive(Drop)]
+#[derive(Clone, Copy)]
 pub struct WriteAnswer {
     pub number: usize,
     pub place: usize,

@@ -11,7 +11,7 @@ ghost use Rattle.pair_choosing.specs.Choosing.{Joined, least_of, Kept, Tries, We
 use pair_following::Step;
 
 // The words that can stand at a place: the smallest so far, and how many: none (0), one (1), or more (2).
-#[derive(Drop)]
+#[derive(Clone, Copy)]
 pub struct Words {
     pub least: u32,
     pub many: usize,
@@ -229,7 +229,7 @@ fn keep_word(
 }
 
 // The word of a place, whether another could have been there (1) or not (0), and the trail; not ok where there is no build.
-#[derive(Drop)]
+#[derive(Clone, Copy)]
 pub struct PlaceChoice {
     pub n: usize,
     pub ok: bool,
@@ -293,7 +293,7 @@ fn choose(
 }
 
 // How far the trail goes, whether there may be a build, and how many choices of words it has.
-#[derive(Drop)]
+#[derive(Clone, Copy)]
 pub struct AllChoices {
     pub n: usize,
     pub ok: bool,

@@ -10,7 +10,7 @@ ghost use Rattle.pair_following.specs.Following.{progress_of, Trail, Ready, Deci
 ghost use Rattle.pair_following.specs.Following.{Free, AllFree, FreeFrom, Grown, Follows, TakenBack, Attempt};
 
 // How far the trail goes, and whether nothing clashed.
-#[derive(Drop)]
+#[derive(Clone, Copy)]
 pub struct Step {
     pub n: usize,
     pub ok: bool,

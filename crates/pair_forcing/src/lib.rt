@@ -19,7 +19,7 @@ pub fn fill(s: &mut [usize], v: usize)
 }
 
 // The entries that can stand at a place: one of them, and how many: none (0), one (1), or more (2).
-#[derive(Drop)]
+#[derive(Clone, Copy)]
 pub struct Entries {
     pub one: usize,
     pub many: usize,

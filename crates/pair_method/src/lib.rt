@@ -17,7 +17,7 @@ use build_method::MethodAnswer;
 use card_entries::MOST;
 
 // Whether there is a build, and how many choices of words were free: there are two to that number of builds.
-#[derive(Drop)]
+#[derive(Clone, Copy)]
 pub struct FreeChoices {
     pub found: bool,
     pub choices: usize,

@@ -5,7 +5,7 @@ pub mod to_fasta;
 pub mod to_list;
 
 // How many bytes are written on each.
-#[derive(Drop)]
+#[derive(Clone, Copy)]
 pub struct Lengths {
     pub output: usize,
     pub errors: usize,

@@ -12,7 +12,7 @@ const AT_ONCE: usize = 4096;
 
 // What was read: the first n bytes of a buffer, and whether it is all there. It is not where the program was called in another way, or where a read
 // failed.
-#[derive(Drop)]
+#[derive(Clone, Copy)]
 pub struct Given {
     pub n: usize,
     pub whole: bool,

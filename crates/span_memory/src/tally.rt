@@ -3,7 +3,7 @@ ghost use Rattle.std.specs.Prelude.{◌≤◌, ◌<◌};
 ghost use Rattle.span_memory.specs.Tally.{most_budget, PlacedOne, PlacedMore};
 
 // The placements made, and the builds that are complete, or 3 where the budget is spent.
-#[derive(Drop)]
+#[derive(Clone, Copy)]
 pub struct Tally {
     pub placed: u32,
     pub builds: u32,

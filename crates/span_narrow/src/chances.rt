@@ -72,7 +72,7 @@ pub fn can_stand(
 }
 
 // A place that is next to be filled, and the last letters of the word before it.
-#[derive(Drop)]
+#[derive(Clone, Copy)]
 pub struct Spot {
     pub i: usize,
     pub want: u32,
@@ -103,7 +103,7 @@ pub fn completes(
 }
 
 // An entry, and the place where it is to stand.
-#[derive(Drop)]
+#[derive(Clone, Copy)]
 struct Stand {
     e: usize,
     i: usize,
@@ -142,7 +142,7 @@ fn leads(
 }
 
 // How far the list of the place i was tried: the next slot, how many are due, the digits so far, and the last word tried.
-#[derive(Drop)]
+#[derive(Clone, Copy)]
 struct Trial {
     i: usize,
     k: usize,

@@ -6,7 +6,7 @@ ghost use Rattle.span_narrow.specs.Digits.{picked, FirstOf, Apart, MarkedBy, Mar
 ghost use Rattle.span_narrow.specs.States.{agreeing};
 
 // Who is chosen of a list: where the first stands, or the list's length, and whether there is another.
-#[derive(Drop)]
+#[derive(Clone, Copy)]
 pub struct Pick {
     pub at: usize,
     pub more: bool,

@@ -29,7 +29,7 @@ fn keep_after(starts: &[u32], slots: &[u16], marks: &mut [u8], table: &mut [u8],
 }
 
 // How far the list of the place i was tried: the next slot, how many are due, and the last word tried.
-#[derive(Drop)]
+#[derive(Clone, Copy)]
 struct Visit {
     i: usize,
     k: usize,

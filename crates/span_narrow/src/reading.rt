@@ -7,7 +7,7 @@ use crate::chances::Spot;
 use crate::{chances, digits};
 
 // An entry that was placed, and whether another could have been.
-#[derive(Drop)]
+#[derive(Clone, Copy)]
 struct PlacedFirst {
     e: usize,
     more: bool,

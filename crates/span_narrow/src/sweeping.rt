@@ -16,7 +16,7 @@ pub fn sets_of(n: usize) -> usize
 }
 
 // A state, by its place and the digits of the marks there.
-#[derive(Drop)]
+#[derive(Clone, Copy)]
 pub struct State {
     pub i: usize,
     pub b: usize,

@@ -15,7 +15,7 @@ use span_memory::tally::{SPENT, Tally};
 use span_steps::{NO_WORD, SLOTS};
 
 // The slots from lo up to hi.
-#[derive(Drop)]
+#[derive(Clone, Copy)]
 struct Slots {
     lo: usize,
     hi: usize,
@@ -23,7 +23,7 @@ struct Slots {
 
 // Where a walk stands: the place i, after a word whose last letters are `want`, and how far it has come. The budget and the mask, which has a
 // one for each binary digit of a word's last letters, are the same at all places.
-#[derive(Drop)]
+#[derive(Clone, Copy)]
 struct Walking {
     i: usize,
     want: u32,

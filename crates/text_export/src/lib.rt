@@ -21,7 +21,7 @@ const MOST_LINE: usize = card_entries::MOST_LENGTH + 13;
 pub const LIST: usize = MOST_LINE * card_entries::MOST;
 
 // What exporting answers: the list's length in bytes, or the refusal.
-#[derive(Drop)]
+#[derive(Clone, Copy)]
 pub enum Exported {
     Text(usize),
     Refused(Refusal),

@@ -15,14 +15,14 @@ use base_answers::{Held, Refusal};
 const PIECE: usize = 20;
 
 // What reading answers: the lengths of the name and of the letters, or the refusal.
-#[derive(Drop)]
+#[derive(Clone, Copy)]
 pub enum Parsed {
     Parts(usize, usize),
     Refused(Refusal),
 }
 
 // What looking for the name answers: how many bytes it has, or the refusal.
-#[derive(Drop)]
+#[derive(Clone, Copy)]
 pub enum Named {
     Name(usize),
     Refused(Refusal),

@@ -9,7 +9,7 @@ ghost use Rattle.text_fasta.specs.Writing.{letter_test, Writes};
 use base_answers::{Held, Refusal};
 
 // What writing answers: the record's length, or the refusal.
-#[derive(Drop)]
+#[derive(Clone, Copy)]
 pub enum Recorded {
     Record(usize),
     Refused(Refusal),

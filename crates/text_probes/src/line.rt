@@ -31,7 +31,7 @@ const HYPHEN: u8 = 45;
 const KEPT: u32 = 1073741824;
 
 // What a line lists: one place, two places, or a run from its first place to its last; as they are listed, counted from 1.
-#[derive(Drop)]
+#[derive(Clone, Copy)]
 pub enum Marked {
     Bare(u16),
     Two(u16, u16),
@@ -39,14 +39,14 @@ pub enum Marked {
 }
 
 // What reading the places of a line answers: what is listed, and where the text goes on.
-#[derive(Drop)]
+#[derive(Clone, Copy)]
 pub enum Listing {
     Lists(Marked, usize),
     NoListing,
 }
 
 // A word: its value, of a long one that of its last letters, and where the text goes on.
-#[derive(Drop)]
+#[derive(Clone, Copy)]
 pub struct Word {
     pub value: u32,
     pub end: usize,
@@ -54,7 +54,7 @@ pub struct Word {
 
 // What a line says: how many letters its word has, the word's value, of a long one that of its last letters, and its places; and where the text
 // goes on.
-#[derive(Drop)]
+#[derive(Clone, Copy)]
 pub struct Probe {
     pub letters: usize,
     pub word: u32,
@@ -63,7 +63,7 @@ pub struct Probe {
 }
 
 // What reading a line answers.
-#[derive(Drop)]
+#[derive(Clone, Copy)]
 pub enum Lined {
     Line(Probe),
     NoLine,

@@ -10,7 +10,7 @@ const DIGIT_9: u8 = 57;
 const MOST_NUMBER: usize = 65535;
 
 // What reading a number answers: the number, and where the text goes on.
-#[derive(Drop)]
+#[derive(Clone, Copy)]
 pub enum Numeral {
     Number(u16, usize),
     NoNumber,

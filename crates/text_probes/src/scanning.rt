@@ -12,7 +12,7 @@ use crate::{keeping, line};
 use base_answers::Refusal;
 
 // What the lines say so far: the kind that a mark asks for (0: no mark yet), the letters of a word (0: no line yet), and how many they are.
-#[derive(Drop)]
+#[derive(Clone, Copy)]
 pub struct Outline {
     pub mark: usize,
     pub l: usize,
@@ -20,7 +20,7 @@ pub struct Outline {
 }
 
 // What the tests of lines answer.
-#[derive(Drop)]
+#[derive(Clone, Copy)]
 pub enum Scanned {
     Sound(Outline),
     Refused(Refusal),

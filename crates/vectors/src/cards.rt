@@ -9,7 +9,7 @@ use test_records::lent::SLOTS;
 use test_records::{input, output};
 
 // What a record leaves: how many bytes the card has, and whether there is more to read.
-#[derive(Drop)]
+#[derive(Clone, Copy)]
 pub struct Turn {
     pub n: usize,
     pub more: bool,

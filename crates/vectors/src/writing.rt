@@ -11,7 +11,7 @@ use test_records::lent::ROOM;
 use test_records::{input, lent, output};
 
 // What writing a card of lists comes to, or that the input ends before they do.
-#[derive(Drop)]
+#[derive(Clone, Copy)]
 pub enum Wrote {
     Is(Written),
     Cut,
