@@ -89,12 +89,14 @@ module _ {A : Type 0} where
           → In x (y ∷ l) × T (test x)
       go true e more h = ⊎_elim (λ q. (rw q first, rw q (rw e tt))) (λ h'. (later (more h').0, (more h').1)) (in_cons h)
       go false e more h = (later (more h).0, (more h).1)
+  in_keep test {x = x} [] h = elim h [ ]
 
   pub keep_in : (test : A → Bool) {x : A} {l : List A} → In x l → T (test x) → In x (keep test l)
   keep_in test {x} (first {xs}) t = go (test x) t
     where
       go : (b : Bool) → T b → In x (cond b (x ∷ keep test xs) (keep test xs))
       go true t = first
+      go false t = elim t [ ]
   keep_in test {x} (later {y} {xs} h) t = go (test y) (keep_in test h t)
     where
       go : (b : Bool) → In x (keep test xs) → In x (cond b (y ∷ keep test xs) (keep test xs))
@@ -157,11 +159,13 @@ module _ {A : Type 0} where
         let v = taken_swap q u.3 in
         (u.0, v.0, u.2, v.1, pair r s.2 v.2 u.4))
         (taken_two p t)
+    paired_take {a = a} nobody t = elim t [ ]
 
     -- whoever is on the right has a partner on the left
     pub paired_in : {b : A} {l m : List A} → Paired R l m → In b m → (a : A) × R a b × In a l
     paired_in (pair {a} r p q ps) h =
         ⊎_elim (λ e. (a, rw e r, taken_is_in p)) (λ h'. let u = paired_in ps h' in (u.0, u.1, in_left p u.2)) (taken_or_left q h)
+    paired_in {b = b} nobody h = elim h [ ]
 
 -- ---- maps
 
@@ -171,8 +175,12 @@ module _ {A B : Type 0} where
   map_in f (later h) = later (map_in f h)
 
   pub in_map : (f : A → B) {y : B} (l : List A) → In y (map f l) → (x : A) × In x l × (y ≡ f x)
-  in_map f (a ∷ l) first = (a, first, refl)
-  in_map f (a ∷ l) (later h) = let s = in_map f l h in (s.0, later s.1, s.2)
+  in_map f {y = y} [] h = elim h [ ]
+  in_map f {y = y} (a ∷ l) h = go a y (λ h. in_map f l h) h
+    where
+      go : (a : A) (y : B) → (In y (map f l) → (x : A) × In x l × (y ≡ f x)) → In y (f a ∷ map f l) → (x : A) × In x (a ∷ l) × (y ≡ f x)
+      go a y rest first = (a, first, refl)
+      go a y rest (later h) = let s = rest h in (s.0, later s.1, s.2)
 
   pub rising_map : {R : A → A → Type 0} {S : B → B → Type 0} (f : A → B) → ((x y : A) → R x y → S (f x) (f y)) → {l : List A} → Rising R l
       → Rising S (map f l)
@@ -193,6 +201,7 @@ module _ {A B : Type 0} where
   pub in_flat_map : (f : A → List B) {y : B} (l : List A) → In y (flat_map f l) → (x : A) × In x l × In y (f x)
   unfolding flat_map
   in_flat_map f (a ∷ l) h = ⊎_elim (λ g. (a, first, g)) (λ g. let s = in_flat_map f l g in (s.0, later s.1, s.2)) (in_append (f a) h)
+  in_flat_map f {y = y} [] h = elim h [ ]
 
   pub rising_flat_map : {R : A → A → Type 0} {S : B → B → Type 0} (f : A → List B) → ((a : A) → Rising S (f a))
       → ((a b : A) (x y : B) → R a b → In x (f a) → In y (f b) → S x y) → {l : List A} → Rising R l → Rising S (flat_map f l)
@@ -226,7 +235,8 @@ module _ {A : Type 0} where
   taken_choice (there {x} t) = later (map_in (λ c. choice c.entry (x ∷ c.left)) (taken_choice t))
 
   pub choice_taken : {c : Choice A} (all : List A) → In c (choices all) → Taken c.entry all c.left
-  choice_taken (e ∷ es) h =
+  choice_taken {c = c} [] h = elim h [ ]
+  choice_taken {c = c} (e ∷ es) h =
       ⊎_elim (λ q. rw q here)
-      (λ g. let s = in_map (λ c. choice c.entry (e ∷ c.left)) (choices es) g in rw s.2 (there (choice_taken es s.1)))
+      (λ g. let s = in_map (λ c. choice c.entry (e ∷ c.left)) (choices es) g in rw s.2 (there (choice_taken {c = s.0} es s.1)))
       (in_cons h)

@@ -13,6 +13,7 @@ reordered_length (next t r) = let h = reordered_length r in omega (arith, length
 
 pub reordered_in : {A : Type 0} {all order : List A} {x : A} → Reordered all order → In x order → In x all
 reordered_in (next t r) h = ⊎_elim (λ e. in_cast e (taken_is_in t)) (λ g. in_left t (reordered_in r g)) (in_cons h)
+reordered_in {A = A} empty h = elim h [ ]
 
 module _ {A B : Type 0} (f : A → B) where
   taken_map : {a : A} {l m : List A} → Taken a l m → Taken (f a) (map f l) (map f m)
@@ -24,8 +25,15 @@ module _ {A B : Type 0} (f : A → B) where
   reordered_map (next t r) = next (taken_map t) (reordered_map r)
 
   map_taken : {b : B} (l : List A) {m : List B} → Taken b (map f l) m → (a : A) × (k : List A) × Taken a l k × (b ≡ f a) × (m ≡ map f k)
-  map_taken (x ∷ l) here = (x, l, here, refl, refl)
-  map_taken (x ∷ l) (there t) = let s = map_taken l t in (s.0, x ∷ s.1, there s.2, s.3, ap (λ r. f x ∷ r) s.4)
+  map_taken {b = b} [] {m = m} t = elim t [ ]
+  map_taken {b = b} (x ∷ l) {m = m} t = go x b (λ m t. map_taken l t) t
+    where
+      Found : List A → B → List B → Type 0
+      Found l b m = (a : A) × (k : List A) × Taken a l k × (b ≡ f a) × (m ≡ map f k)
+
+      go : (x : A) (b : B) → ((m : List B) → Taken b (map f l) m → Found l b m) → {m : List B} → Taken b (f x ∷ map f l) m → Found (x ∷ l) b m
+      go x b rest here = (x, l, here, refl, refl)
+      go x b rest (there t) = let s = rest _ t in (s.0, x ∷ s.1, there s.2, s.3, ap (λ r. f x ∷ r) s.4)
 
   -- what a map gives, in another order, is the map of the list in that order
   pub map_reordered : {m o : List B} (l : List A) → m ≡ map f l → Reordered m o → (k : List A) × Reordered l k × (o ≡ map f k)

@@ -45,12 +45,15 @@ passed {t} e h = sym e ∙ not-false t h
 
 pub is_true : (b : Bool) → T b → b ≡ true
 is_true true t = refl
+is_true false t = elim t [ ]
 
 pub true_is : (b : Bool) → b ≡ true → T b
 true_is b e = rw e tt
 
 pub and_both : (a b : Bool) → T (a && b) → T a × T b
 and_both true b t = (tt, t)
+and_both false b t = elim t [ ]
 
 pub both_and : (a b : Bool) → T a → T b → T (a && b)
 both_and true b s t = t
+both_and false b s t = elim s [ ]

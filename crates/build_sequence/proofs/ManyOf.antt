@@ -63,12 +63,14 @@ in_distinct : (ss : List (List ℕ)) {t : List ℕ} → In t (distinct ss) → I
 unfolding distinct
 in_distinct (s ∷ ss) h =
     ⊎_elim (λ e. in_cast e first) (λ k. later (in_distinct ss (in_keep (another s) (distinct ss) k).0)) (in_cons h)
+in_distinct [] {t = t} h = elim h [ ]
 
 distinct_in : (ss : List (List ℕ)) {t : List ℕ} → In t ss → In t (distinct ss)
 unfolding distinct
 distinct_in (s ∷ ss) {t} h =
     ⊎_elim (λ e. in_cast e first)
     (λ k. ⊎_elim (λ e. in_cast e first) (λ a. later (keep_in (another s) (distinct_in ss k) a)) (same_or_another s t)) (in_cons h)
+distinct_in [] {t = t} h = elim h [ ]
 
 -- ---- how many builds the entries have, by their arrangements
 

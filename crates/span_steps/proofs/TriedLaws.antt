@@ -37,6 +37,7 @@ module _ (ok : ℕ → Bool) (word : ℕ → ℕ) where
           → In j (k ∷ js)
       go true new old m = ⊎_elim (λ e. rw e first) (λ g. later (new g)) (in_cons m)
       go false new old m = later (old m)
+  tries_in w [] {j = j} h = elim h [ ]
 
   pub tries_ok : (w : ℕ) (js : List ℕ) {j : ℕ} → In j (tries ok word w js) → ok j ≡ true
   unfolding tries
@@ -48,6 +49,7 @@ module _ (ok : ℕ → Bool) (word : ℕ → ℕ) where
       go true e true new old m = ⊎_elim (λ q. rw q e) new (in_cons m)
       go true e false new old m = old m
       go false e b new old m = old m
+  tries_ok w [] {j = j} h = elim h [ ]
 
 -- ---- the firsts of each word
 

@@ -117,6 +117,7 @@ module _ (l : ℕ) (es : List Slot) where
     where
       go : (vs : List ℕ) → Before [] vs → 0 < length vs
       go (v ∷ vs) b = omega arith
+      go [] b = elim b [ ]
 
   pub feasible_walked : {ws : List ℕ} → 0 < length ws → Feasible l 0 none es ws → In ws (walked l es)
   unfolding walked

@@ -26,6 +26,7 @@ reached_feasible l (suc n) i p left h =
     let t = tried_in l i p left u.1 in
     rw v.2 (step t.0 refl t.1.allowed t.1.follow
     (⊎_elim (λ e. rw e (stop t.1.others)) (λ g. reached_feasible l n (suc i) (some (word_of u.0)) u.0.left g) (in_cons v.1)))
+reached_feasible l zero i p left {ws = ws} h = elim h [ ]
 
 pub feasible_reached : (l n i : ℕ) {p : Option ℕ} {left : List Slot} {ws : List ℕ} → length ws ≤ n → Feasible l i p left ws
     → In ws ([] ∷ walk l n i p left)
@@ -54,6 +55,7 @@ unfolding walk
 reached_some l (suc n) i p left ws h =
     let u = in_flat_map (λ c. map (λ vs. word_of c ∷ vs) (after l n i c)) (tried l i p left) h in
     rw (reached_word l n i u.0 u.2).1 tt
+reached_some l zero i p left ws h = elim h [ ]
 
 pub walk_rising : (l n i : ℕ) (p : Option ℕ) (left : List Slot) → Rising Before (walk l n i p left)
 unfolding walk

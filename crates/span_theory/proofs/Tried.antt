@@ -28,6 +28,7 @@ pub record Candidate (l i : ℕ) (p : Option ℕ) (c : Choice Slot) : Type 0 whe
 past_in : (i : ℕ) (es : List Slot) → T (last_past i es) → (d : Slot) → In d es → i < d.two
 past_in i (e ∷ es) t d first = ltb→lt _ _ (and_both (ltb i e.two) (last_past i es) t).0
 past_in i (e ∷ es) t d (later h) = past_in i es (and_both (ltb i e.two) (last_past i es) t).1 d h
+past_in i [] t d x'' = elim x'' [ ]
 
 in_past : (i : ℕ) (es : List Slot) → ((d : Slot) → In d es → i < d.two) → T (last_past i es)
 in_past i [] h = tt
@@ -158,10 +159,12 @@ module _ {A : Type 0} (word last : A → ℕ) where
       go more (instead w e) =
           ⊎_elim (λ q. (c, first, rw q (record { same = w; ends = e }))) (λ h'. (x, later h', serves_itself x)) (in_cons h)
       go more (dropped w e) = (x, h, serves_itself x)
+  insert_serves_old {x = x} c [] h = elim h [ ]
 
   pub by_word_in : {x : A} (cs : List A) → In x (by_word word last cs) → In x cs
   unfolding by_word
   by_word_in (c ∷ cs) h = ⊎_elim (λ e. rw e first) (λ h'. later (by_word_in cs h')) (insert_in c (by_word word last cs) h)
+  by_word_in [] h = elim h [ ]
 
   pub by_word_rising : (cs : List A) → Rising Words (by_word word last cs)
   unfolding by_word
@@ -175,6 +178,7 @@ module _ {A : Type 0} (word last : A → ℕ) where
       let u = by_word_serves cs h in
       let v = insert_serves_old c (by_word word last cs) u.1 in
       (v.0, v.1, record { same = v.2.same ∙ u.2.same; ends = omega (arith, v.2.ends, u.2.ends) })
+  by_word_serves [] x'' = elim x'' [ ]
 
 -- ---- what is tried
 

@@ -1,0 +1,16 @@
+-- `settle_lists` meets its contract: the tests of the lists, and then those of lists that hold. Assumes nothing.
+use Rattle.base_answers.proofs.Laws.{told_holds, told_refused}
+use Rattle.card_lists.proofs.Laws.{lists_held}
+use Rattle.build_narrow.proofs.TestLaws.{lists_refuse}
+use Rattle.build_narrow.proofs.SettlingLaws.{building_refused}
+use borrow.Author.Rules.{rules}
+use Rattle.build_narrow.proofs.settle_lists.Goals as goal
+
+pub settle_from-requires : goal.settle_from-requires
+settle_from-requires c =
+    let told = c.before in lists_held (told_holds told.lists_hold.ensures told.enum_told-1.given.1)
+
+pub returns-in-Refused : goal.returns-in-Refused
+returns-in-Refused c =
+    let known = c.before in
+    building_refused (lists_refuse _ _ _ _ _ _ _ (told_refused known.lists_hold.ensures known.r-1.given.1))

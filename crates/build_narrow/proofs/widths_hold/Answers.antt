@@ -1,0 +1,58 @@
+-- `widths_hold` meets its contract. The invariant: the tests of the entries that are left answer as those of all do. What falls is how many
+-- are left. Assumes nothing.
+use borrow.Author.Rules.{rules}
+use mathlib.Core.Path.{◌≡◌, sym, ◌∙◌}
+use mathlib.Core.List.{[]}
+use Prim.Native.Nat.{ℕ, ◌-◌}
+use native.Mathlib.Omega.{arith}
+use lib.ListN.{length}
+use Rattle.base_answers.specs.Numbers.{Wider}
+use Rattle.base_answers.specs.Answer.{first, sound}
+use Rattle.base_lists.specs.Row.{in_turn}
+use Rattle.base_answers.proofs.Laws.{first_last, first_fail, turn_holds, turn_refused, turns_end}
+use Rattle.base_lists.proofs.TestLaws.{failed, passed}
+use Rattle.card_entries.specs.declared.Slot.{Slot}
+use Rattle.card_entries.specs.Slot.{slot_from, entries_in}
+use Rattle.span_layers.specs.Narrow.{is_narrow}
+use Rattle.build_narrow.specs.Settling.{width_tests}
+use Rattle.build_narrow.proofs.TestLaws.{width_test, widths_in_turn}
+use Rattle.build_narrow.proofs.widths_hold.Goals as goal
+
+-- once the entry has been tested: where its turn began, and what the test said of it
+module _ (c : goal.After-is_narrow) where
+  abbrev turn : goal.In-loop-e
+  turn = c.before.before
+
+  abbrev at-loop : goal.At-loop-e
+  at-loop = turn.before
+
+  abbrev start : goal.Start
+  start = let lists = at-loop.before in lists.before.before.before
+
+  abbrev slot-at : ℕ → Slot
+  slot-at = slot_from start.args.words.now start.args.ones.now start.args.twos.now
+
+  said : c.is_narrow.result ≡ is_narrow (slot-at at-loop.loop-e.e)
+  said = rw c.slot_from.ensures at c.is_narrow.ensures
+
+pub loop-e-init : goal.loop-e-init
+loop-e-init c =
+    let args = c.args in
+    let n : ℕ = length args.words.now in
+    let whole : n - 0 ≡ n = omega arith in
+    rw (whole, widths_in_turn (slot_from args.words.now args.ones.now args.twos.now) 0 n)
+
+pub returns-then-not-is_narrow : goal.returns-then-not-is_narrow
+returns-then-not-is_narrow c =
+    let asked = c.before in
+    let wrong = first_fail _ Wider (at-loop asked).loop-e.e [] sound (failed (said asked) c.if-not-is_narrow.true) in
+    sym (turn_refused (width_test (slot-at asked)) _ _ sound (turn asked).loop-e-test.true wrong) ∙ (at-loop asked).loop-e.invariant
+
+pub loop-e-preserved : goal.loop-e-preserved
+loop-e-preserved c =
+    let asked = c.before in
+    let holds = first_last _ Wider (at-loop asked).loop-e.e sound (passed (said asked) c.if-not-is_narrow.false) in
+    turn_holds (width_test (slot-at asked)) _ _ sound (turn asked).loop-e-test.true holds ∙ (at-loop asked).loop-e.invariant
+
+pub returns : goal.returns
+returns c = sym (turns_end _ _ _ sound c.loop-e-test.false) ∙ c.loop-e.invariant

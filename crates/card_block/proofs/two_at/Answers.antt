@@ -1,0 +1,8 @@
+-- `card_block::two_at` meets its contract. Assumes nothing.
+use borrow.Author.Rules.{rules}
+use Rattle.card_block.specs.Bytes.{two_at}
+use Rattle.card_block.proofs.two_at.Goals as goal
+
+pub returns : goal.returns
+unfolding two_at
+returns c = c.two.ensures

@@ -1,0 +1,19 @@
+-- `card_layout::slot_of` meets its contract. Assumes nothing.
+use borrow.Author.Rules.{rules}
+use Prim.Native.Nat.{ℕ, ◌+◌, ◌/◌, ◌%◌}
+use mathlib.Core.Path.{◌∙◌, ap}
+use mathlib.Core.List.{List}
+use native.Mathlib.Omega.{arith}
+use Rattle.card_block.proofs.Laws.{block_length}
+use Rattle.card_entries.specs.Slot.{slot_at}
+use Rattle.card_layout.specs.Layout.{slot_of, per_block}
+use Rattle.card_layout.proofs.slot_of.Goals as goal
+
+pub slot_at-requires : goal.slot_at-requires
+slot_at-requires c =
+    let start = c.before.before in
+    rw c.part.ensures.0 (omega (arith, block_length start.args.card.now (1 + start.args.e / per_block) start.requires))
+
+pub returns : goal.returns
+unfolding slot_of
+returns c = c.slot_at.ensures ∙ ap (λ (b : List ℕ). slot_at b (c.args.e % per_block)) c.part.ensures.0

@@ -1,0 +1,25 @@
+-- `card_lists::entries_hold` meets its contract. The invariant: the tests of the entries that are left answer as those of all do. What falls is
+-- how many are left. Assumes nothing.
+use borrow.Author.Rules.{rules}
+use mathlib.Core.Path.{◌≡◌, sym, ◌∙◌}
+use mathlib.Core.List.{List}
+use Prim.Native.Nat.{ℕ, ◌-◌}
+use native.Mathlib.Omega.{arith}
+use Rattle.base_answers.specs.Answer.{Test, first, sound, says_held}
+use Rattle.base_lists.specs.Row.{in_turn}
+use Rattle.base_answers.proofs.Laws.{turn_holds, turn_refused, turns_end, told_holds, told_refused}
+use Rattle.card_entries.specs.declared.Format.{Format}
+use Rattle.card_entries.specs.Fault.{entry_tests}
+use Rattle.card_entries.specs.Slot.{slot_from}
+use Rattle.card_lists.proofs.entries_hold.Given as goal
+
+-- the tests of entry e
+abbrev pub listed_tests : Format → List ℕ → List ℕ → List ℕ → ℕ → List Test
+listed_tests f words ones twos e = entry_tests f e (slot_from words ones twos e)
+
+abbrev pub invariant-loop-e : goal.invariant-loop-e
+invariant-loop-e l =
+    first (in_turn (listed_tests l.f l.words l.ones l.twos) l.e (l.f.m - l.e)) sound ≡ first (in_turn (listed_tests l.f l.words l.ones l.twos) 0 l.f.m) sound
+
+abbrev pub decreases-loop-e : goal.decreases-loop-e
+decreases-loop-e l = l.f.m - l.e

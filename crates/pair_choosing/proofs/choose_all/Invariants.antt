@@ -1,0 +1,15 @@
+-- `pair_choosing::choose_all` meets its contract. The loop's invariant is `Deciding` of proofs/Deciding.antt. Assumes nothing.
+use mathlib.Core.Path.{sym, ◌∙◌}
+use Prim.Native.Nat.{◌-◌, ◌<◌, ◌≤◌}
+use native.Mathlib.Omega.{arith}
+use Rattle.pair_following.specs.Following.{count_in, pairs_of, progress_of}
+use Rattle.pair_following.proofs.ExclusionLaws.{inside_of}
+use Rattle.pair_choosing.proofs.Deciding.{Deciding, deciding_more, deciding_stops, deciding_end}
+use Rattle.pair_choosing.proofs.choose_all.Given as goal
+
+abbrev pub invariant-loop-t : goal.invariant-loop-t
+invariant-loop-t l =
+    (l.t ≤ count_in l.card) × Deciding (pairs_of l.card l.mask) (progress_of l.put l.trail l.far) l.choices l.words l.t
+
+abbrev pub decreases-loop-t : goal.decreases-loop-t
+decreases-loop-t l = count_in l.card - l.t

@@ -1,0 +1,53 @@
+-- `pair_forcing::entries_at` meets its contract. The loop goes through the list of t (`Listing`). Assumes nothing.
+use mathlib.Core.Logic.{◌⊎◌, inl, inr, ⊎_elim}
+use Prim.Native.Nat.{ℕ}
+use borrow.Author.Rules.{rules}
+use Rattle.pair_following.specs.Following.{nth, pairs_of}
+use Rattle.pair_following.specs.Common.{Common}
+use Rattle.pair_forcing.specs.Forcing.{keyed}
+use Rattle.pair_following.proofs.Slots.{Listing, list_start, list_none, slot_low, list_entry, list_more, list_less, list_next}
+use Rattle.pair_following.proofs.CommonLaws.{common_start, common_end}
+use Rattle.pair_forcing.proofs.SureLaws.{entry_also}
+use Rattle.pair_forcing.proofs.entries_at.Goals as goal
+
+abbrev entered : goal.After-last_slot-k → goal.Start
+entered c = c.before.before.before
+
+abbrev start : goal.At-loop-k → goal.Start
+start c = entered c.before
+
+pub loop-k-init : goal.loop-k-init
+loop-k-init c =
+    let pre = (entered c).requires in
+    rw c.last_slot-k.ensures (list_start pre.2 pre.0, λ mask. common_start (list_none pre.2 pre.0 mask))
+
+pub with_entry-s-requires : goal.with_entry-s-requires
+with_entry-s-requires c =
+    let pre = (start c.before).requires in
+    rw pre.1 (list_entry pre.2 c.loop-k.invariant.0 c.loop-k-test.true)
+
+pub slot_before-k-requires : goal.slot_before-k-requires
+slot_before-k-requires c =
+    let t = c.before in slot_low (start t.before).requires.2 t.loop-k.invariant.0 t.loop-k-test.true
+
+pub loop-k-smaller : goal.loop-k-smaller
+loop-k-smaller c =
+    let t = c.before.before in
+    rw c.slot_before-k.ensures (list_less (start t.before).requires.2 t.loop-k.invariant.0 t.loop-k-test.true)
+
+pub loop-k-preserved : goal.loop-k-preserved
+loop-k-preserved c =
+    let t = c.before.before in
+    let a = start t.before in
+    let pre = a.requires in
+    let inv = t.loop-k.invariant in
+    let more = t.loop-k-test.true in
+    rw c.slot_before-k.ensures (
+      list_more pre.2 inv.0 more,
+      λ mask. entry_also (pairs_of a.args.card.now mask) pre.0 (list_entry pre.2 inv.0 more)
+          (list_next pre.2 inv.0 more mask) (inv.1 mask)
+          (⊎_elim (λ x. inl (λ v. x.0 (rw pre.1 v), x.1, x.2)) inr c.with_entry-s.ensures),
+    )
+
+pub returns : goal.returns
+returns c mask = common_end c.loop-k-test.false (c.loop-k.invariant.1 mask)

@@ -1,0 +1,18 @@
+-- `pair_forcing::entries_at` meets its contract. The loop goes through the list of t (`Listing`). Assumes nothing.
+use mathlib.Core.Logic.{◌⊎◌, inl, inr, ⊎_elim}
+use Prim.Native.Nat.{ℕ}
+use borrow.Author.Rules.{rules}
+use Rattle.pair_following.specs.Following.{nth, pairs_of}
+use Rattle.pair_following.specs.Common.{Common}
+use Rattle.pair_forcing.specs.Forcing.{keyed}
+use Rattle.pair_following.proofs.Slots.{Listing, list_start, list_none, slot_low, list_entry, list_more, list_less, list_next}
+use Rattle.pair_following.proofs.CommonLaws.{common_start, common_end}
+use Rattle.pair_forcing.proofs.SureLaws.{entry_also}
+use Rattle.pair_forcing.proofs.entries_at.Given as goal
+
+abbrev pub invariant-loop-k : goal.invariant-loop-k
+invariant-loop-k l =
+    Listing l.card l.t l.k × ((mask : ℕ) → Common (keyed (pairs_of l.card mask)) (nth l.put) l.t l.k l.s.one l.s.many)
+
+abbrev pub decreases-loop-k : goal.decreases-loop-k
+decreases-loop-k l = l.k

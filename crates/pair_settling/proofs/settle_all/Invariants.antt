@@ -1,0 +1,14 @@
+-- `pair_settling::settle_all` meets its contract. The loop's invariant is `Settling` of proofs/Settled.antt. Assumes nothing.
+use mathlib.Core.Path.{refl, sym, ◌∙◌}
+use Prim.Native.Nat.{◌-◌, ◌<◌}
+use native.Mathlib.Omega.{arith}
+use Rattle.pair_following.specs.Following.{count_in, pairs_of, progress_of}
+use Rattle.pair_settling.proofs.Settled.{Settling, settling_more, settled_all, settled_none}
+use Rattle.pair_settling.proofs.settle_all.Given as goal
+
+abbrev pub invariant-loop-e : goal.invariant-loop-e
+invariant-loop-e l =
+    Settling (pairs_of l.card l.mask) (progress_of l.initial.put l.initial.trail l.n) (progress_of l.put l.trail l.far) l.e
+
+abbrev pub decreases-loop-e : goal.decreases-loop-e
+decreases-loop-e l = count_in l.card - l.e

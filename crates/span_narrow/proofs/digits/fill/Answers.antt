@@ -1,0 +1,28 @@
+-- `fill` meets its contract: one number more stands in each turn (`filling_turn`). What falls is how many are left. Assumes nothing.
+use mathlib.Core.Path.{refl}
+use Prim.Native.Nat.{◌-◌}
+use native.Mathlib.Omega.{arith}
+use lib.ListN.{length}
+use borrow.Author.Rules.{rules}
+use Rattle.base_lists.proofs.FillingLaws.{Filling, filling_none, filling_turn, filling_all}
+use Rattle.span_narrow.proofs.digits.fill.Goals as goal
+
+pub loop-k-init : goal.loop-k-init
+loop-k-init c = filling_none _ _ refl
+
+pub loop-k-smaller : goal.loop-k-smaller
+loop-k-smaller c = omega (arith, c.loop-k.invariant.all, c.loop-k-test.true)
+
+pub loop-k-preserved : goal.loop-k-preserved
+loop-k-preserved c = filling_turn _ _ c.loop-k.invariant (omega (arith, c.loop-k.invariant.all, c.loop-k-test.true)) refl
+
+pub shape_of-list : goal.shape_of-list
+shape_of-list c = c.loop-k.invariant.all
+
+pub returns : goal.returns
+returns c =
+    let filled = c.loop-k.invariant in
+    record {
+      all = filled.all;
+      each = λ k h. filling_all _ _ filled (omega (arith, filled.all, c.loop-k-test.false)) k (omega (arith, filled.all));
+    }

@@ -1,0 +1,14 @@
+-- `fill` meets its contract: one number more stands in each turn (`filling_turn`). What falls is how many are left. Assumes nothing.
+use mathlib.Core.Path.{refl}
+use Prim.Native.Nat.{◌-◌}
+use native.Mathlib.Omega.{arith}
+use lib.ListN.{length}
+use borrow.Author.Rules.{rules}
+use Rattle.base_lists.proofs.FillingLaws.{Filling, filling_none, filling_turn, filling_all}
+use Rattle.span_narrow.proofs.digits.fill.Given as goal
+
+abbrev pub invariant-loop-k : goal.invariant-loop-k
+invariant-loop-k l = Filling (λ j. l.v) (length l.initial.list) l.k l.list
+
+abbrev pub decreases-loop-k : goal.decreases-loop-k
+decreases-loop-k l = length l.initial.list - l.k

@@ -1,0 +1,19 @@
+-- `test_records::hashes::of_bytes` meets its contract. The invariant: the hash so far and what is left give the hash of all. Assumes nothing.
+use borrow.Author.Rules.{rules}
+use Prim.Native.Nat.{◌-◌}
+use native.Mathlib.Omega.{arith}
+use lib.ListN.{length}
+use Rattle.test_records.proofs.HashLaws.{SoFar, so_far_none, so_far_more, so_far_all}
+use Rattle.test_records.proofs.hashes.of_bytes.Goals as goal
+
+pub loop-i-init : goal.loop-i-init
+loop-i-init c = so_far_none _
+
+pub overflow_cast-s : goal.overflow_cast-s
+overflow_cast-s c = omega (arith, c.shared_slice_known-in-loop-i-1.given c.loop-i.i)
+
+pub loop-i-preserved : goal.loop-i-preserved
+loop-i-preserved c = let turn = c.before.before in so_far_more _ turn.loop-i.invariant turn.loop-i-test.true c.mix-h.ensures
+
+pub returns : goal.returns
+returns c = so_far_all c.loop-i.invariant c.loop-i-test.false

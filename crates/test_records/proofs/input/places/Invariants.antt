@@ -1,0 +1,14 @@
+-- `test_records::input::places` meets its contract. The invariant: the list keeps its length. What falls is the number of slots that are left.
+-- Assumes nothing.
+use borrow.Author.Rules.{rules}
+use Prim.Native.Nat.{◌-◌}
+use mathlib.Core.Path.{◌≡◌}
+use lib.ListN.{length}
+use Rattle.test_records.specs.Record.{slots}
+use Rattle.test_records.proofs.input.places.Given as goal
+
+abbrev pub invariant-loop-i : goal.invariant-loop-i
+invariant-loop-i l = length l.list ≡ slots
+
+abbrev pub decreases-loop-i : goal.decreases-loop-i
+decreases-loop-i l = l.n - l.i

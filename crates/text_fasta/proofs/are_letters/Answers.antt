@@ -1,0 +1,15 @@
+-- `are_letters` meets its contract: whether the bytes so far are letters (`Seen`). Assumes nothing.
+use borrow.Author.Rules.{rules}
+use Prim.Native.Nat.{◌-◌}
+use Rattle.base_letters.specs.Letters.{is_letter}
+use Rattle.text_fasta.proofs.LeadingLaws.{Seen, seen_none, seen_turn, seen_all}
+use Rattle.text_fasta.proofs.are_letters.Goals as goal
+
+pub loop-i-init : goal.loop-i-init
+loop-i-init c = seen_none
+
+pub loop-i-preserved : goal.loop-i-preserved
+loop-i-preserved c = let turn = c.before.before in seen_turn turn.loop-i.invariant turn.loop-i-test.true c.is_letter-all.ensures
+
+pub returns : goal.returns
+returns c = seen_all c.loop-i.invariant c.loop-i-test.false

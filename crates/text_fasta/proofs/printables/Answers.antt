@@ -1,0 +1,23 @@
+-- `printables` meets its contract: the bytes so far are printable (`Led`). Assumes nothing.
+use borrow.Author.Rules.{rules}
+use Prim.Native.Nat.{◌-◌}
+use Rattle.base_lists.proofs.TestLaws.{failed, passed}
+use Rattle.text_fasta.specs.Record.{is_printable}
+use Rattle.text_fasta.proofs.LeadingLaws.{Led, led_none, led_turn, led_stop, led_all}
+use Rattle.text_fasta.proofs.printables.Goals as goal
+
+pub loop-i-init : goal.loop-i-init
+loop-i-init c = led_none
+
+pub returns-then-not-is_printable : goal.returns-then-not-is_printable
+returns-then-not-is_printable c =
+    let turn = c.before.before.before in
+    led_stop turn.loop-i.invariant turn.loop-i-test.true (failed c.is_printable.ensures c.if-not-is_printable.true)
+
+pub loop-i-preserved : goal.loop-i-preserved
+loop-i-preserved c =
+    let turn = c.before.before.before in
+    led_turn turn.loop-i.invariant turn.loop-i-test.true (passed c.is_printable.ensures c.if-not-is_printable.false)
+
+pub returns : goal.returns
+returns c = led_all c.loop-i.invariant c.loop-i-test.false

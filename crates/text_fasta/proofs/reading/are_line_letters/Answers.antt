@@ -1,0 +1,19 @@
+-- `are_line_letters` meets its contract: whether the bytes so far are letters (`Seen`). Assumes nothing.
+use borrow.Author.Rules.{rules}
+use Prim.Native.Nat.{◌-◌}
+use native.Mathlib.Omega.{arith}
+use Rattle.base_letters.specs.Letters.{is_letter}
+use Rattle.text_fasta.proofs.LeadingLaws.{Seen, seen_none, seen_part, seen_rest}
+use Rattle.text_fasta.proofs.reading.are_line_letters.Goals as goal
+
+pub loop-at-init : goal.loop-at-init
+loop-at-init c = seen_none
+
+pub loop-at-preserved : goal.loop-at-preserved
+loop-at-preserved c =
+    let turn = c.before.before in
+    let at = turn.loop-at in
+    seen_part at.invariant (omega arith) (omega (arith, at.invariant.within, turn.loop-at-test.true)) c.are_letters-all.ensures
+
+pub returns : goal.returns
+returns c = seen_rest c.loop-at.invariant c.are_letters.ensures

@@ -1,0 +1,13 @@
+-- `are_line_letters` meets its contract: whether the bytes so far are letters (`Seen`). Assumes nothing.
+use borrow.Author.Rules.{rules}
+use Prim.Native.Nat.{◌-◌}
+use native.Mathlib.Omega.{arith}
+use Rattle.base_letters.specs.Letters.{is_letter}
+use Rattle.text_fasta.proofs.LeadingLaws.{Seen, seen_none, seen_part, seen_rest}
+use Rattle.text_fasta.proofs.reading.are_line_letters.Given as goal
+
+abbrev pub invariant-loop-at : goal.invariant-loop-at
+invariant-loop-at l = Seen is_letter l.line l.all l.at
+
+abbrev pub decreases-loop-at : goal.decreases-loop-at
+decreases-loop-at l = l.n - l.at

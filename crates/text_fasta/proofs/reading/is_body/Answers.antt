@@ -1,0 +1,39 @@
+-- `is_body` meets its contract: the lines so far are as they should be (`Looked`). Assumes nothing.
+use borrow.Author.Rules.{rules}
+use Prim.Native.Nat.{◌-◌}
+use native.Mathlib.Omega.{arith}
+use Rattle.base_lists.proofs.TestLaws.{failed, passed}
+use Rattle.text_fasta.proofs.EndLaws.{end_within, end_after}
+use Rattle.text_fasta.proofs.LinedLaws.{nothing_body}
+use Rattle.text_fasta.proofs.LoopLaws.{Looked, looked_none, looked_turn, looked_stop, looked_all}
+use Rattle.text_fasta.proofs.reading.is_body.Goals as goal
+
+pub returns-then-n-eq0 : goal.returns-then-n-eq0
+returns-then-n-eq0 c = nothing_body _ c.if-n-eq0.true
+
+pub loop-at-init : goal.loop-at-init
+loop-at-init c = looked_none
+
+pub is_line-requires : goal.is_line-requires
+is_line-requires c = (end_after c.line_end-end.ensures, omega (arith, end_within c.line_end-end.ensures, c.loop-at-test.true))
+
+pub returns-then-not-is_line : goal.returns-then-not-is_line
+returns-then-not-is_line c =
+    let at = c.before.before in
+    let turn = at.before in
+    looked_stop turn.loop-at.invariant at.line_end-end.ensures turn.loop-at-test.true (failed c.is_line.ensures c.if-not-is_line.true)
+
+pub overflow_add-at : goal.overflow_add-at
+overflow_add-at c = let at = c.before.before in omega (arith, end_within at.line_end-end.ensures, at.loop-at-test.true)
+
+pub loop-at-smaller : goal.loop-at-smaller
+loop-at-smaller c = let at = c.before.before in omega (arith, end_after at.line_end-end.ensures, at.loop-at-test.true)
+
+pub loop-at-preserved : goal.loop-at-preserved
+loop-at-preserved c =
+    let at = c.before.before in
+    let turn = at.before in
+    looked_turn turn.loop-at.invariant at.line_end-end.ensures turn.loop-at-test.true (passed c.is_line.ensures c.if-not-is_line.false)
+
+pub returns : goal.returns
+returns c = looked_all c.loop-at.invariant (omega (arith, c.if-n-eq0.false)) c.loop-at-test.false

@@ -1,0 +1,21 @@
+-- `is_headed` meets its contract. Assumes nothing.
+use native.Mathlib.Omega.{arith}
+use Rattle.text_fasta.proofs.HeadLaws.{within_reach, no_end, no_mark, headed_by_name}
+use borrow.Author.Rules.{rules}
+use Rattle.text_fasta.proofs.reading.is_headed.Goals as goal
+
+pub overflow_add-end : goal.overflow_add-end
+overflow_add-end c = omega (arith, within_reach c.args.bytes.now c.requires)
+
+pub returns-then-bytes-end : goal.returns-then-bytes-end
+returns-then-bytes-end c = no_end _ c.requires c.if-bytes-end.true
+
+pub returns-then-bytes-ne-MARK : goal.returns-then-bytes-ne-MARK
+returns-then-bytes-ne-MARK c = no_mark _ c.if-bytes-ne-MARK.true
+
+pub returns : goal.returns
+returns c =
+    let mark = c.before.before in
+    let tested = mark.before.before in
+    let start = tested.before.before in
+    headed_by_name _ start.requires tested.if-bytes-end.false mark.if-bytes-ne-MARK.false c.is_name.ensures

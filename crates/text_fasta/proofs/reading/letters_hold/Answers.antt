@@ -1,0 +1,43 @@
+-- `letters_hold` meets its contract: the letters so far are counted (`Counting`). Assumes nothing.
+use borrow.Author.Rules.{rules}
+use mathlib.Core.Path.{sym, ◌∙◌}
+use mathlib.Core.Logic.{inr}
+use Prim.Native.Nat.{◌-◌}
+use native.Mathlib.Omega.{arith}
+use Rattle.base_answers.specs.Answer.{sound}
+use Rattle.base_lists.proofs.TestLaws.{failed, passed}
+use Rattle.text_fasta.proofs.TestLaws.{letters_refused, letters_given}
+use Rattle.text_fasta.proofs.LoopLaws.{Counting, counting_none, counting_break, counting_letter, counting_stop, counting_all}
+use Rattle.text_fasta.proofs.reading.letters_hold.Goals as goal
+
+pub loop-i-init : goal.loop-i-init
+loop-i-init c = counting_none
+
+pub loop-i-preserved-then-body-i-eq-NEWLINE : goal.loop-i-preserved-then-body-i-eq-NEWLINE
+loop-i-preserved-then-body-i-eq-NEWLINE c = let turn = c.before.before in counting_break turn.loop-i.invariant turn.loop-i-test.true c.if-body-i-eq-NEWLINE.true
+
+pub returns-then-not-is_letter : goal.returns-then-not-is_letter
+returns-then-not-is_letter c =
+    let other = c.before.before.before in
+    let turn = other.before.before in
+    let none = failed c.is_letter.ensures c.if-not-is_letter.true in
+    let stop = counting_stop turn.loop-i.invariant turn.loop-i-test.true other.if-body-i-eq-NEWLINE.false none in
+    letters_refused _ sound stop.0 stop.1
+
+pub loop-i-preserved : goal.loop-i-preserved
+loop-i-preserved c =
+    let other = c.before.before.before in
+    let turn = other.before.before in
+    counting_letter turn.loop-i.invariant turn.loop-i-test.true other.if-body-i-eq-NEWLINE.false (passed c.is_letter.ensures c.if-not-is_letter.false)
+
+pub returns-then-k-eq0 : goal.returns-then-k-eq0
+returns-then-k-eq0 c =
+    let done = c.before in
+    let all = counting_all done.loop-i.invariant done.loop-i-test.false in
+    letters_refused _ sound (sym c.if-k-eq0.true ∙ all.1) (inr (sym all.0 ∙ c.if-k-eq0.true))
+
+pub returns : goal.returns
+returns c =
+    let done = c.before in
+    let all = counting_all done.loop-i.invariant done.loop-i-test.false in
+    letters_given _ sound (omega (arith, all.0, c.if-k-eq0.false)) (sym all.0 ∙ all.1)

@@ -1,0 +1,21 @@
+-- `name_in` meets its contract. Assumes nothing.
+use mathlib.Core.Path.{sym, ap, ◌∙◌}
+use mathlib.Core.List.{[]}
+use Rattle.base_answers.specs.Numbers.{Name}
+use Rattle.base_answers.specs.Answer.{given}
+use Rattle.base_answers.proofs.Laws.{first_fail, first_last}
+use Rattle.base_lists.proofs.TestLaws.{failed, passed}
+use Rattle.text_fasta.proofs.HeadLaws.{name_found}
+use borrow.Author.Rules.{rules}
+use Rattle.text_fasta.proofs.reading.name_in.Goals as goal
+
+pub is_headed-requires : goal.is_headed-requires
+is_headed-requires c = c.name_length-n.ensures
+
+pub returns-then-not-is_headed : goal.returns-then-not-is_headed
+returns-then-not-is_headed c = sym (first_fail _ Name 0 [] _ (failed c.is_headed.ensures c.if-not-is_headed.true))
+
+pub returns : goal.returns
+returns c =
+    let headed = passed c.is_headed.ensures c.if-not-is_headed.false in
+    ap given (name_found _ c.name_length-n.ensures headed) ∙ sym (first_last _ Name 0 _ headed)

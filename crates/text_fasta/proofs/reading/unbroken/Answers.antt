@@ -1,0 +1,19 @@
+-- `unbroken` meets its contract: the bytes so far are no newlines (`Led`). Assumes nothing.
+use borrow.Author.Rules.{rules}
+use Prim.Native.Nat.{◌-◌}
+use Rattle.text_fasta.specs.Reading.{no_break}
+use Rattle.text_fasta.proofs.LeadingLaws.{Led, led_none, led_turn, led_stop, led_all}
+use Rattle.text_fasta.proofs.BodyLaws.{is_break, no_break_lem}
+use Rattle.text_fasta.proofs.reading.unbroken.Goals as goal
+
+pub loop-i-init : goal.loop-i-init
+loop-i-init c = led_none
+
+pub returns-then-bytes-i-eq-NEWLINE : goal.returns-then-bytes-i-eq-NEWLINE
+returns-then-bytes-i-eq-NEWLINE c = let turn = c.before.before in led_stop turn.loop-i.invariant turn.loop-i-test.true (is_break _ c.if-bytes-i-eq-NEWLINE.true)
+
+pub loop-i-preserved : goal.loop-i-preserved
+loop-i-preserved c = let turn = c.before.before in led_turn turn.loop-i.invariant turn.loop-i-test.true (no_break_lem _ c.if-bytes-i-eq-NEWLINE.false)
+
+pub returns : goal.returns
+returns c = led_all c.loop-i.invariant c.loop-i-test.false

@@ -1,0 +1,23 @@
+-- `letters_before` meets its contract: the bytes so far are letters (`Led`). Assumes nothing.
+use borrow.Author.Rules.{rules}
+use Prim.Native.Nat.{◌-◌}
+use Rattle.base_lists.proofs.TestLaws.{failed, passed}
+use Rattle.base_letters.specs.Letters.{is_letter}
+use Rattle.text_fasta.proofs.LeadingLaws.{Led, led_none, led_turn, led_stop, led_all}
+use Rattle.text_fasta.proofs.writing.letters_before.Goals as goal
+
+pub loop-i-init : goal.loop-i-init
+loop-i-init c = led_none
+
+pub returns-then-not-is_letter : goal.returns-then-not-is_letter
+returns-then-not-is_letter c =
+    let turn = c.before.before.before in
+    led_stop turn.loop-i.invariant turn.loop-i-test.true (failed c.is_letter.ensures c.if-not-is_letter.true)
+
+pub loop-i-preserved : goal.loop-i-preserved
+loop-i-preserved c =
+    let turn = c.before.before.before in
+    led_turn turn.loop-i.invariant turn.loop-i-test.true (passed c.is_letter.ensures c.if-not-is_letter.false)
+
+pub returns : goal.returns
+returns c = led_all c.loop-i.invariant c.loop-i-test.false

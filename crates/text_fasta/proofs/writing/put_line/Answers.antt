@@ -1,0 +1,13 @@
+-- `put_line` meets its contract: the letters, and then a newline. Assumes nothing.
+use native.Mathlib.Omega.{arith}
+use Rattle.text_fasta.specs.Record.{newline}
+use Rattle.base_text.proofs.PuttingLaws.{length_put, put_then, put_byte}
+use borrow.Author.Rules.{rules}
+use Rattle.text_fasta.proofs.writing.put_line.Goals as goal
+
+pub returns : goal.returns
+returns c =
+    let texted = c.before.before in
+    let lent = texted.before in
+    let put = texted.put_text-end.ensures in
+    put_then put (put_byte _ _ newline (omega (arith, length_put put, put.ends, lent.requires)))

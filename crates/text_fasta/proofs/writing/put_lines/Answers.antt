@@ -1,0 +1,47 @@
+-- `put_lines` meets its contract: the letters so far are put in lines (`Lining`). Assumes nothing.
+use borrow.Author.Rules.{rules}
+use Prim.Native.Nat.{◌-◌}
+use native.Mathlib.Omega.{arith}
+use Rattle.text_fasta.proofs.LoopLaws.{Lining, lining_none, lining_length, lining_room, lining_turn, lining_all}
+use Rattle.text_fasta.proofs.EndLaws.{end_within, end_after, end_more}
+use Rattle.text_fasta.proofs.writing.put_lines.Goals as goal
+
+pub loop-i-init : goal.loop-i-init
+loop-i-init c = lining_none c.requires
+
+pub slice_bounds-put_line-count : goal.slice_bounds-put_line-count
+slice_bounds-put_line-count c = end_after c.line_end-end.ensures
+
+pub slice_bounds-put_line-start : goal.slice_bounds-put_line-start
+slice_bounds-put_line-start c = end_after c.line_end-end.ensures
+
+pub slice_bounds-put_line-end : goal.slice_bounds-put_line-end
+slice_bounds-put_line-end c = end_within c.line_end-end.ensures
+
+pub put_line-to-requires : goal.put_line-to-requires
+put_line-to-requires c =
+    let at = c.before.before in
+    let turn = at.before in
+    lining_room turn.loop-i.invariant at.line_end-end.ensures turn.loop-i-test.true
+
+-- where the line ends that is put
+abbrev ended : goal.After-put_line-to → goal.After-line_end-end
+ended c = c.before.before.before
+
+pub loop-i-smaller : goal.loop-i-smaller
+loop-i-smaller c =
+    let at = ended c.before.before in
+    omega (arith, end_more at.line_end-end.ensures at.loop-i-test.true, at.loop-i-test.true)
+
+pub loop-i-preserved : goal.loop-i-preserved
+loop-i-preserved c =
+    let put = c.before.before in
+    let at = ended put in
+    let turn = at.before in
+    lining_turn turn.loop-i.invariant at.line_end-end.ensures turn.loop-i-test.true put.put_line-to.ensures
+
+pub shape_of-out : goal.shape_of-out
+shape_of-out c = lining_length c.loop-i.invariant
+
+pub returns : goal.returns
+returns c = lining_all c.loop-i.invariant c.loop-i-test.false

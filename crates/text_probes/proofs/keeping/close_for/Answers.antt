@@ -1,0 +1,14 @@
+-- `close_for` meets its contract. Assumes nothing.
+use mathlib.Core.Path.{◌∙◌}
+use Rattle.text_probes.proofs.CloseLaws.{for_pair, for_span}
+use borrow.Author.Rules.{rules}
+use Rattle.text_probes.proofs.keeping.close_for.Goals as goal
+
+pub returns-then-kind-ne-SPAN : goal.returns-then-kind-ne-SPAN
+returns-then-kind-ne-SPAN c = for_pair _ c.args.ones.now _ c.if-kind-ne-SPAN.true
+
+pub returns : goal.returns
+returns c =
+    let did = c.before.before in
+    let span = did.before.before in
+    did.close.ensures ∙ for_span _ span.args.ones.now _ span.if-kind-ne-SPAN.false

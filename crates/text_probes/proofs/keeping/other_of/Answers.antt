@@ -1,0 +1,23 @@
+-- `other_of` meets its contract. Assumes nothing.
+use mathlib.Core.Path.{sym, ap}
+use native.Mathlib.Omega.{arith}
+use Rattle.card_entries.specs.Fault.{pair}
+use Rattle.text_probes.specs.Listing.{two_of}
+use Rattle.text_probes.proofs.KeepLaws.{above_two, above_run}
+use borrow.Author.Rules.{rules}
+use Rattle.text_probes.proofs.keeping.other_of.Goals as goal
+
+pub overflow_sub-result : goal.overflow_sub-result
+overflow_sub-result c = omega (arith, (above_two c.requires c.listed-1.given.1).1)
+
+pub overflow_sub-result-in-Run : goal.overflow_sub-result-in-Run
+overflow_sub-result-in-Run c = omega (arith, (above_run c.requires c.listed-in-Run-1.given.1).1)
+
+pub returns-in-Bare : goal.returns-in-Bare
+returns-in-Bare c = sym (ap (two_of pair) c.enum_told-1.given.1)
+
+pub returns-in-Two : goal.returns-in-Two
+returns-in-Two c = sym (ap (two_of pair) c.listed-1.given.1)
+
+pub returns-in-Run : goal.returns-in-Run
+returns-in-Run c = sym (ap (two_of pair) c.listed-in-Run-1.given.1)
