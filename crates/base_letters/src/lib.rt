@@ -1,4 +1,6 @@
 // The letters and their codes: one table, used forward to spell a code and searched to read a letter.
+#![tactic(auto)]
+
 ghost use Rattle.std.specs.Prelude.{◌≡◌, ◌<◌};
 ghost use Rattle.base_letters.specs.Letters.{codes, letter_of, code_of, is_letter, says_code};
 

@@ -1,11 +1,10 @@
 -- `base_letters::code_of` meets its contract. The invariant: the search of the letters that are left is the search of all.
 -- Assumes nothing.
 use borrow.Author.Rules.{rules}
-use Prim.Native.Nat.{◌≤◌, ◌-◌}
-use mathlib.Core.Path.{◌≡◌, sym, ◌∙◌}
+use mathlib.Core.Path.{sym, ◌∙◌}
 use native.Mathlib.Omega.{arith}
-use Rattle.base_letters.specs.Letters.{codes, letters, letter_of, code_of}
-use Rattle.base_letters.proofs.Laws.{from, from_start, from_other, from_found, from_end}
+use Rattle.base_letters.specs.Letters.{letters, letter_of}
+use Rattle.base_letters.proofs.Laws.{from_start, from_other, from_found, from_end}
 use Rattle.base_letters.proofs.code_of.Goals as goal
 
 pub loop-code-init : goal.loop-code-init
