@@ -1,5 +1,7 @@
 // The blocks of a card: fetched where their check and their index hold, and sealed. This layer knows nothing of entries.
 // No function that the scope names has a `requires`: `fetch` and `companion` test their own input.
+#![tactic(auto)]
+
 mod check;
 
 ghost use Rattle.std.specs.Prelude.{◌≡◌, ◌+◌, ◌*◌, ◌-◌, ◌≤◌, length, take, replicate};

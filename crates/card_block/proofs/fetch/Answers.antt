@@ -1,5 +1,4 @@
 -- `card_block::fetch` meets its contract: the block's own bytes where the companion holds, and otherwise none. Assumes nothing.
-use borrow.Author.Rules.{rules}
 use mathlib.Core.Path.{◌≡◌, sym, ◌∙◌}
 use native.Mathlib.Omega.{arith}
 use Rattle.base_answers.specs.Answer.{given, sound, first}
@@ -9,22 +8,18 @@ use Rattle.card_block.proofs.Laws.{holds_there, fetch_holds, fetch_refused, plac
 use Rattle.card_block.proofs.fetch.Goals as goal
 
 -- where the companion has answered that the fetch holds
-abbrev start_of : goal.In-Holds → goal.Start
-start_of c = let answered = c.before.before in answered.before.before
-
-holds : (c : goal.In-Holds) → first (fetch_tests (start_of c).args.card.now (start_of c).args.k) sound ≡ given sound
-holds c = told_holds c.companion.ensures c.enum_told-1.given.1
+holds : (c : goal.In-Holds) → first (fetch_tests c.args.card.now c.args.k) sound ≡ given sound
+holds c = told_holds c.companion.ensures c.in-Holds.is
 
 pub part-requires : goal.part-requires
-part-requires c = let start = (start_of c).args in omega (arith, holds_there start.card.now start.k sound sound (holds c))
+part-requires c = let start = c.args in omega (arith, holds_there start.card.now start.k sound sound (holds c))
 
 pub returns-in-Holds : goal.returns-in-Holds
 returns-in-Holds c =
-    let h = holds c.before in
-    record { bytes = c.part.ensures.0 ∙ sym (fetch_holds _ _ h); place = c.part.ensures.1 ∙ sym (place_holds _ _ _ h) }
+    let h = told_holds c.companion.ensures c.in-Holds.is in
+    record { bytes = c.part.ensures.bytes ∙ sym (fetch_holds _ _ h); place = c.part.ensures.place ∙ sym (place_holds _ _ _ h) }
 
 pub returns-in-Refused : goal.returns-in-Refused
 returns-in-Refused c =
-    let told = c.before in
-    let h = told_refused told.companion.ensures told.enum_told-in-Refused-1.given.1 in
+    let h = told_refused c.companion.ensures c.in-Refused.is in
     record { bytes = sym (fetch_refused _ _ h); place = sym (place_refused _ _ _ h) }

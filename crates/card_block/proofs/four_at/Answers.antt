@@ -1,5 +1,4 @@
 -- `card_block::four_at` meets its contract. Assumes nothing.
-use borrow.Author.Rules.{rules}
 use native.Mathlib.Omega.{arith}
 use Rattle.card_block.specs.Bytes.{four_at}
 use Rattle.card_block.proofs.four_at.Goals as goal

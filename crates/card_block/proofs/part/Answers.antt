@@ -1,5 +1,4 @@
 -- `card_block::part` meets its contract. Assumes nothing.
-use borrow.Author.Rules.{rules}
 use mathlib.Core.Path.{refl}
 use Rattle.card_block.proofs.Laws.{part_is}
 use Rattle.card_block.proofs.part.Goals as goal

@@ -1,6 +1,5 @@
 -- `card_block::put_four` meets its contract. Assumes nothing.
 use Rattle.card_block.proofs.ByteLaws.{four_put}
-use borrow.Author.Rules.{rules}
 use Rattle.card_block.proofs.put_four.Goals as goal
 
 pub returns : goal.returns

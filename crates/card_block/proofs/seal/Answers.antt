@@ -1,17 +1,8 @@
 -- `card_block::seal` meets its contract: the own bytes, zeros, the index and the check are what `sealed` is (`seal_made`). Assumes nothing.
-use borrow.Author.Rules.{rules}
 use native.Mathlib.Omega.{arith}
 use lib.ListN.{length-set, length-take}
 use Rattle.card_block.proofs.SealingLaws.{seal_made}
 use Rattle.card_block.proofs.seal.Goals as goal
-
--- where the zeros stand, and where the index does
-module _ (c : goal.After-put_two) where
-  abbrev cleared : goal.After-clear
-  cleared = let lent = c.before in lent.before.before.before
-
-  abbrev start : goal.Start
-  start = cleared.before.before.before
 
 pub slice_bounds-bytes_of-end-2 : goal.slice_bounds-bytes_of-end-2
 slice_bounds-bytes_of-end-2 c = simp length-take (omega arith)
@@ -27,7 +18,4 @@ shape_of-part c = simp length-set (omega arith)
 
 pub returns : goal.returns
 returns c =
-    let lent = c.before in
-    let index = lent.before.before.before in
-    let zeros = cleared index in
-    seal_made _ _ _ (start index).requires.0 (start index).requires.1 zeros.clear.ensures index.put_two.ensures _ c.bytes_of-c.ensures
+    seal_made _ _ _ c.requires.0 c.requires.1 c.clear.ensures c.put_two.ensures _ c.bytes_of-c.ensures

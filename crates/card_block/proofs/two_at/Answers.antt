@@ -1,5 +1,4 @@
 -- `card_block::two_at` meets its contract. Assumes nothing.
-use borrow.Author.Rules.{rules}
 use Rattle.card_block.specs.Bytes.{two_at}
 use Rattle.card_block.proofs.two_at.Goals as goal
 

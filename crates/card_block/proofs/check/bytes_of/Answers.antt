@@ -1,6 +1,5 @@
 -- `card_block::check::bytes_of` meets its contract: the remainders of the plain sums are those of the sums step by step (`check_reduced`).
 -- Assumes nothing.
-use borrow.Author.Rules.{rules}
 use Rattle.card_block.proofs.PlainLaws.{check_reduced}
 use Rattle.card_block.proofs.check.bytes_of.Goals as goal
 

@@ -1,5 +1,4 @@
 -- `card_block::check::holds` meets its contract: the first check byte is tested, and then the second. Assumes nothing.
-use borrow.Author.Rules.{rules}
 use native.Mathlib.Omega.{arith}
 use lib.ListN.{length-take}
 use Rattle.card_block.proofs.Laws.{checks_not, checks_when}

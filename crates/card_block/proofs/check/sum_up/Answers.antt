@@ -1,23 +1,14 @@
 -- `card_block::check::sum_up` meets its contract. The invariant: the sums are the plain sums of the bytes so far, and these are few enough for
 -- `plain_most`. Assumes nothing.
 use borrow.Author.Rules.{rules}
-use Prim.Native.Nat.{◌≤◌, ◌-◌}
 use native.Mathlib.Omega.{arith}
-use mathlib.Core.Path.{◌≡◌, refl, ap, ◌∙◌}
-use lib.ListN.{length, take, length-take}
+use mathlib.Core.Path.{refl, ap, ◌∙◌}
+use lib.ListN.{take, length-take}
 use lib.Seq.{take_all}
 use Rattle.card_block.specs.Plain.{plain_of}
 use Rattle.card_block.proofs.Laws.{take_bytes}
 use Rattle.card_block.proofs.PlainLaws.{plain_more, plain_most}
 use Rattle.card_block.proofs.check.sum_up.Goals as goal
-
--- where a turn finds the lent bytes, and where the call began
-module _ (turn : goal.After-shared_slice_known-in-loop-i-1) where
-  abbrev lent : goal.After-shared_slice_known-1
-  lent = turn.before.before.before
-
-  abbrev start : goal.Start
-  start = lent.before
 
 pub loop-i-init : goal.loop-i-init
 unfolding plain_of
@@ -26,16 +17,15 @@ loop-i-init c = (search rules, refl)
 pub plain_step-s-requires : goal.plain_step-s-requires
 plain_step-s-requires c =
     let at = c.loop-i in
-    let bytes = (start c).args.bytes.now in
+    let bytes = c.args.bytes.now in
     rw at.invariant.1
-    (plain_most (take at.i bytes) (take_bytes at.i bytes (λ j. ((lent c).shared_slice_known-1.given j).fits))
-    (simp length-take (omega (arith, (start c).requires, at.invariant.0))))
+    (plain_most (take at.i bytes) (take_bytes at.i bytes (λ j. (c.type_inv.bytes j).fits))
+    (simp length-take (omega (arith, c.requires, at.invariant.0))))
 
 pub loop-i-preserved : goal.loop-i-preserved
 loop-i-preserved c =
-    let turn = c.before in
-    let at = turn.loop-i in
-    (search rules, cc (plain_more (start turn).args.bytes.now at.i turn.loop-i-test.true))
+    let at = c.loop-i in
+    (search rules, cc (plain_more c.args.bytes.now at.i c.loop-i-test.true))
 
 pub returns : goal.returns
 returns c =

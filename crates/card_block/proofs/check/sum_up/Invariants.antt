@@ -1,14 +1,9 @@
 -- `card_block::check::sum_up` meets its contract. The invariant: the sums are the plain sums of the bytes so far, and these are few enough for
 -- `plain_most`. Assumes nothing.
-use borrow.Author.Rules.{rules}
 use Prim.Native.Nat.{◌≤◌, ◌-◌}
-use native.Mathlib.Omega.{arith}
-use mathlib.Core.Path.{◌≡◌, refl, ap, ◌∙◌}
-use lib.ListN.{length, take, length-take}
-use lib.Seq.{take_all}
+use mathlib.Core.Path.{◌≡◌}
+use lib.ListN.{length, take}
 use Rattle.card_block.specs.Plain.{plain_of}
-use Rattle.card_block.proofs.Laws.{take_bytes}
-use Rattle.card_block.proofs.PlainLaws.{plain_more, plain_most}
 use Rattle.card_block.proofs.check.sum_up.Given as goal
 
 abbrev pub invariant-loop-i : goal.invariant-loop-i
