@@ -8,7 +8,7 @@
 # make vectors    writes the stored vectors and calls anew from the second implementation
 # make samples    lays the sample cards, lists and records out anew from their tables
 # make manual     writes the manual page of the calls anew from the header
-# make clean      removes target/, where all that is made stands
+# make clean      removes target/, where what is made stands; what the kit keeps of its checks stands in crates/*/out
 # make help       prints these lines
 export CARGO_TARGET_DIR := $(CURDIR)/target/cargo
 export CARGO_NET_OFFLINE := true
@@ -29,13 +29,18 @@ there = "$(DESTDIR)$(PREFIX)/$(1)"
 
 .PHONY: all every_crate programs run library test install report bench soak vectors samples manual clean help
 
-all: every_crate $(LIBRARY)
+all: every_crate programs $(LIBRARY)
 
 every_crate:
-	rt check
+	rt all check
 
-programs:
-	rt check $(PROGRAMS)
+programs: $(PROGRAMS:%=target/bin/%)
+
+# Proved and built by running it on its stored input.
+target/bin/%: $(SOURCES)
+	cd crates/$* && rt run < stdin > /dev/null
+	mkdir -p target/bin
+	cp crates/$*/out/$* $@
 
 run: programs
 	tests/x86 target/bin/build < "$$CARD"
