@@ -1,4 +1,6 @@
 // The entries of a card: what kind, l and m may be, how an entry is stored, what makes it wrong, and the places that it allows.
+#![tactic(auto)]
+
 ghost use Rattle.std.specs.Prelude.{◌≡◌, ◌+◌, ◌*◌, ◌^◌, ◌≤◌, length};
 ghost use Rattle.base_answers.specs.Answer.{first, sound, says_held};
 ghost use Rattle.base_lists.specs.Parts.{put_at};

@@ -1,5 +1,4 @@
 -- `card_entries::entry_holds` meets its contract: each return is one law of `entry_tests`. Assumes nothing.
-use borrow.Author.Rules.{rules}
 use mathlib.Core.Path.{sym, ◌∙◌}
 use native.Mathlib.Omega.{arith}
 use Rattle.card_entries.proofs.Laws.{word_over, places_wrong, entry_sound}

@@ -1,5 +1,4 @@
 -- `card_entries::entry_of` meets its contract. Assumes nothing.
-use borrow.Author.Rules.{rules}
 use Rattle.card_entries.specs.Entry.{entry_of}
 use Rattle.card_entries.proofs.entry_of.Goals as goal
 

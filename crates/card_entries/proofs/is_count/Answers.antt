@@ -1,6 +1,5 @@
 -- `card_entries::is_count` meets its contract. Assumes nothing.
-use borrow.Author.Rules.{rules}
 use Rattle.card_entries.proofs.is_count.Goals as goal
 
 pub returns : goal.returns
-returns c = c.is_Within.ensures
+returns c = c.is_within.ensures

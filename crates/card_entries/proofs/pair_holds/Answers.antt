@@ -1,5 +1,4 @@
 -- `card_entries::pair_holds` meets its contract: each return is one law of `pair_holds`. Assumes nothing.
-use borrow.Author.Rules.{rules}
 use mathlib.Core.Path.{sym, ◌∙◌}
 use Rattle.card_entries.proofs.Laws.{pair_out, pair_one, pair_two, pair_turned}
 use Rattle.card_entries.proofs.pair_holds.Goals as goal

@@ -1,5 +1,4 @@
 -- `card_entries::places_hold` meets its contract, by the kind. Assumes nothing.
-use borrow.Author.Rules.{rules}
 use mathlib.Core.Path.{◌∙◌}
 use Rattle.card_entries.proofs.Laws.{span_holds_lem, pair_holds_lem}
 use Rattle.card_entries.proofs.places_hold.Goals as goal

@@ -1,5 +1,4 @@
 -- `card_entries::put_slot` meets its contract: the word, place one and place two are the slot's bytes (`slot_put`). Assumes nothing.
-use borrow.Author.Rules.{rules}
 use Rattle.card_entries.proofs.SlotLaws.{slot_put}
 use Rattle.card_entries.proofs.put_slot.Goals as goal
 

@@ -1,5 +1,4 @@
 -- `card_entries::slot_at` meets its contract. Assumes nothing.
-use borrow.Author.Rules.{rules}
 use Rattle.card_entries.specs.Slot.{slot_at}
 use Rattle.card_entries.proofs.slot_at.Goals as goal
 

@@ -1,5 +1,4 @@
 -- `card_entries::span_holds` meets its contract: each return is one law of `span_holds`. Assumes nothing.
-use borrow.Author.Rules.{rules}
 use mathlib.Core.Path.{sym, ◌∙◌}
 use Rattle.card_entries.proofs.Laws.{span_turned, span_out, span_width}
 use Rattle.card_entries.proofs.span_holds.Goals as goal
