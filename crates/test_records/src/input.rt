@@ -1,16 +1,17 @@
-// What a record has, read from standard input, little-endian: its fields and its lists.
+// What a record has, read from the input, little-endian: its fields and its lists. Where a read fails the input ends.
 ghost use Rattle.std.specs.Prelude.{◌≡◌, true, ◌+◌, ◌≤◌, length};
 ghost use Rattle.test_records.specs.Record.{field_bytes, slots, eight_at};
 
 use crate::lent;
 use crate::lent::SLOTS;
+use std::io::Read;
 
 // The most bytes that the fields of a record have.
 pub const FIELDS: usize = 24;
 
 // Fills the bytes from the input, and answers whether it has as many.
-pub fn fill(bytes: &mut [u8]) -> bool {
-    io::read_full(libc::STDIN_FILENO, bytes) == bytes.len()
+pub fn fill(from: &mut impl Read, bytes: &mut [u8]) -> bool {
+    from.read_exact(bytes).is_ok()
 }
 
 // The field of eight bytes from `at` on.
@@ -37,7 +38,7 @@ pub struct PlacesRead {
 }
 
 // The next n words.
-pub fn words(n: usize) -> WordsRead
+pub fn words(from: &mut impl Read, n: usize) -> WordsRead
     requires { n ≤ slots }
     ensures { length result.list ≡ slots }
 {
@@ -45,7 +46,7 @@ pub fn words(n: usize) -> WordsRead
     let mut i = 0;
     while i < n {
         let mut bytes = [0u8; 4];
-        if !fill(&mut bytes) {
+        if !fill(from, &mut bytes) {
             return WordsRead { list, whole: false };
         }
         list[i] = card_block::four_at(&bytes, 0);
@@ -55,7 +56,7 @@ pub fn words(n: usize) -> WordsRead
 }
 
 // The next n places.
-pub fn places(n: usize) -> PlacesRead
+pub fn places(from: &mut impl Read, n: usize) -> PlacesRead
     requires { n ≤ slots }
     ensures { length result.list ≡ slots }
 {
@@ -63,7 +64,7 @@ pub fn places(n: usize) -> PlacesRead
     let mut i = 0;
     while i < n {
         let mut bytes = [0u8; 2];
-        if !fill(&mut bytes) {
+        if !fill(from, &mut bytes) {
             return PlacesRead { list, whole: false };
         }
         list[i] = card_block::two_at(&bytes, 0);
@@ -95,13 +96,13 @@ pub struct ListsRead {
 }
 
 // The next a words, b places one and c places two.
-pub fn lists(a: usize, b: usize, c: usize) -> ListsRead
+pub fn lists(from: &mut impl Read, a: usize, b: usize, c: usize) -> ListsRead
     requires { (a ≤ slots) × (b ≤ slots) × (c ≤ slots) }
     ensures { (length result.words ≡ slots) × (length result.ones ≡ slots) × (length result.twos ≡ slots) }
 {
-    let w = words(a);
-    let o = places(b);
-    let t = places(c);
+    let w = words(from, a);
+    let o = places(from, b);
+    let t = places(from, c);
     ListsRead {
         words: w.list,
         ones: o.list,

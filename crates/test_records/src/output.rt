@@ -1,42 +1,42 @@
-// The parts of a line, written to standard output as they come.
+// The parts of a line, written to the output as they come. What the output does not take is left out: a program's last flush says so.
 use crate::hashes;
 use base_answers::Refusal;
+use std::io::Write;
 
 // A text.
-pub fn text(text: &[u8]) {
-    io::write_all(libc::STDOUT_FILENO, text);
+pub fn text(to: &mut impl Write, text: &[u8]) {
+    let _ = to.write_all(text);
 }
 
 // A space and a number in decimal.
-pub fn number(x: usize) {
-    text(b" ");
-    io::print_decimal(libc::STDOUT_FILENO, x as u64);
+pub fn number(to: &mut impl Write, x: usize) {
+    let _ = write!(to, " {x}");
 }
 
 // A name and a number.
-pub fn one(name: &[u8], x: usize) {
-    text(name);
-    number(x)
+pub fn one(to: &mut impl Write, name: &[u8], x: usize) {
+    text(to, name);
+    number(to, x)
 }
 
 // A name and two numbers.
-pub fn two(name: &[u8], x: usize, y: usize) {
-    one(name, x);
-    number(y)
+pub fn two(to: &mut impl Write, name: &[u8], x: usize, y: usize) {
+    one(to, name, x);
+    number(to, y)
 }
 
 // A name and three numbers.
-pub fn three(name: &[u8], x: usize, y: usize, z: usize) {
-    two(name, x, y);
-    number(z)
+pub fn three(to: &mut impl Write, name: &[u8], x: usize, y: usize, z: usize) {
+    two(to, name, x, y);
+    number(to, z)
 }
 
 // The hash of bytes, of an output after a call.
-pub fn hash(bytes: &[u8]) {
-    number(hashes::of_bytes(bytes))
+pub fn hash(to: &mut impl Write, bytes: &[u8]) {
+    number(to, hashes::of_bytes(bytes))
 }
 
 // A refusal: its number and its place.
-pub fn refused(r: Refusal) {
-    two(b"refused", r.number, r.place)
+pub fn refused(to: &mut impl Write, r: Refusal) {
+    two(to, b"refused", r.number, r.place)
 }

@@ -9,9 +9,6 @@ use Rattle.test_records.proofs.hashes.of_places.Goals as goal
 pub loop-i-init : goal.loop-i-init
 loop-i-init c = so_far_none _
 
-pub overflow_cast-s : goal.overflow_cast-s
-overflow_cast-s c = omega (arith, c.shared_slice_known-in-loop-i-1.given c.loop-i.i)
-
 pub loop-i-preserved : goal.loop-i-preserved
 loop-i-preserved c = let turn = c.before.before in so_far_more _ turn.loop-i.invariant turn.loop-i-test.true c.mix-h.ensures
 

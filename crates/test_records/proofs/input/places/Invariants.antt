@@ -8,7 +8,7 @@ use Rattle.test_records.specs.Record.{slots}
 use Rattle.test_records.proofs.input.places.Given as goal
 
 abbrev pub invariant-loop-i : goal.invariant-loop-i
-invariant-loop-i l = length l.list ≡ slots
+invariant-loop-i g l = length l.list ≡ slots
 
 abbrev pub decreases-loop-i : goal.decreases-loop-i
-decreases-loop-i l = l.n - l.i
+decreases-loop-i g l = l.n - l.i
