@@ -3,44 +3,52 @@ ghost use Rattle.std.specs.Prelude.{◌≤◌};
 ghost use Rattle.test_records.specs.Record.{slots};
 
 use build_count::Number;
+use std::io::{Read, Write};
 use test_records::input::FIELDS;
 use test_records::lent::ROOM;
 use test_records::{input, lent, output};
 
 // Tells the number of builds.
-fn tell(n: Number) {
+fn tell(to: &mut impl Write, n: Number) {
     match n {
-        Number::Power(k) => output::one(b"power", k),
-        Number::None => output::text(b"none"),
-        Number::Refused(r) => output::refused(r),
+        Number::Power(k) => output::one(to, b"power", k),
+        Number::None => output::text(to, b"none"),
+        Number::Refused(r) => output::refused(to, r),
     }
-    output::text(b"\n")
+    output::text(to, b"\n")
 }
 
 // Counts the builds of the card that follows, of as many bytes as are lent, and says whether the input has it.
-fn tell_card(card: &mut [u8]) -> bool {
-    if !input::fill(card) {
+fn tell_card(from: &mut impl Read, to: &mut impl Write, card: &mut [u8]) -> bool {
+    if !input::fill(from, card) {
         return false;
     }
-    tell(build_count::count_card(card));
+    tell(to, build_count::count_card(card));
     true
 }
 
 // The same with a card of as many bytes as the fields say, where there can be such.
-pub fn of_card(fields: &[u8; FIELDS]) -> bool {
+pub fn of_card(from: &mut impl Read, to: &mut impl Write, fields: &[u8; FIELDS]) -> bool {
     let n = card_block::four_at(fields, 0) as usize;
     if ROOM < n {
         return false;
     }
     let mut card = lent::bytes();
-    tell_card(&mut card[..n])
+    tell_card(from, to, &mut card[..n])
 }
 
 // Counts the builds of the lists that follow, of so many slots, and says whether the input has them.
-fn tell_lists(fields: &[u8; FIELDS], a: usize, b: usize, c: usize) -> bool
+fn tell_lists(
+    from: &mut impl Read,
+    to: &mut impl Write,
+    fields: &[u8; FIELDS],
+    a: usize,
+    b: usize,
+    c: usize,
+) -> bool
     requires { (a ≤ slots) × (b ≤ slots) × (c ≤ slots) }
 {
-    let read = input::lists(a, b, c);
+    let read = input::lists(from, a, b, c);
     if !read.whole {
         return false;
     }
@@ -49,17 +57,20 @@ fn tell_lists(fields: &[u8; FIELDS], a: usize, b: usize, c: usize) -> bool
     let twos = read.twos;
     let kind = input::eight_at(fields, 0);
     let l = input::eight_at(fields, 8);
-    tell(build_count::count_lists(kind, l, &words[..a], &ones[..b], &twos[..c]));
+    tell(
+        to,
+        build_count::count_lists(kind, l, &words[..a], &ones[..b], &twos[..c]),
+    );
     true
 }
 
 // The same with lists of as many slots as the fields say, where there can be such.
-pub fn of_lists(fields: &[u8; FIELDS]) -> bool {
+pub fn of_lists(from: &mut impl Read, to: &mut impl Write, fields: &[u8; FIELDS]) -> bool {
     let a = card_block::two_at(fields, 16) as usize;
     let b = card_block::two_at(fields, 18) as usize;
     let c = card_block::two_at(fields, 20) as usize;
     if !input::are_few(a, b, c) {
         return false;
     }
-    tell_lists(fields, a, b, c)
+    tell_lists(from, to, fields, a, b, c)
 }

@@ -3,42 +3,43 @@ ghost use Rattle.std.specs.Prelude.{◌≤◌};
 ghost use Rattle.test_records.specs.Record.{slots};
 
 use card_writer::Written;
+use std::io::{Read, Write};
 use test_records::input::FIELDS;
 use test_records::lent::{ROOM, SLOTS, TEXT_ROOM};
 use test_records::{input, lent, output};
 use text_export::Exported;
 
 // Tells what importing answers, the card's length under this name or the refusal, and what the output holds afterwards.
-fn tell_card(name: &[u8], w: Written, out: &[u8]) {
+fn tell_card(to: &mut impl Write, name: &[u8], w: Written, out: &[u8]) {
     match w {
-        Written::Card(n) => output::one(name, n),
-        Written::Refused(r) => output::refused(r),
+        Written::Card(n) => output::one(to, name, n),
+        Written::Refused(r) => output::refused(to, r),
     }
-    output::hash(out);
-    output::text(b"\n")
+    output::hash(to, out);
+    output::text(to, b"\n")
 }
 
 // Tells what exporting answers, the list's length or the refusal, and what the output holds afterwards.
-fn tell_list(e: Exported, out: &[u8]) {
+fn tell_list(to: &mut impl Write, e: Exported, out: &[u8]) {
     match e {
-        Exported::Text(n) => output::one(b"list", n),
-        Exported::Refused(r) => output::refused(r),
+        Exported::Text(n) => output::one(to, b"list", n),
+        Exported::Refused(r) => output::refused(to, r),
     }
-    output::hash(out)
+    output::hash(to, out)
 }
 
 // Imports the list that follows, of as many bytes as are lent, and says whether the input has it.
-fn import_told(list: &mut [u8], out: &mut [u8]) -> bool {
-    if !input::fill(list) {
+fn import_told(from: &mut impl Read, to: &mut impl Write, list: &mut [u8], out: &mut [u8]) -> bool {
+    if !input::fill(from, list) {
         return false;
     }
     let w = text_import::import(list, out);
-    tell_card(b"card", w, out);
+    tell_card(to, b"card", w, out);
     true
 }
 
 // The same with a list and an output of as many bytes as the fields say, where there can be such.
-pub fn of_list(fields: &[u8; FIELDS]) -> bool {
+pub fn of_list(from: &mut impl Read, to: &mut impl Write, fields: &[u8; FIELDS]) -> bool {
     let n = card_block::four_at(fields, 0) as usize;
     let room = card_block::two_at(fields, 4) as usize;
     if TEXT_ROOM < n {
@@ -49,22 +50,22 @@ pub fn of_list(fields: &[u8; FIELDS]) -> bool {
     }
     let mut list = lent::texts();
     let mut out = lent::bytes();
-    import_told(&mut list[..n], &mut out[..room])
+    import_told(from, to, &mut list[..n], &mut out[..room])
 }
 
 // Exports the card that follows, of as many bytes as are lent, and says whether the input has it.
-fn export_told(card: &mut [u8], out: &mut [u8]) -> bool {
-    if !input::fill(card) {
+fn export_told(from: &mut impl Read, to: &mut impl Write, card: &mut [u8], out: &mut [u8]) -> bool {
+    if !input::fill(from, card) {
         return false;
     }
     let e = text_export::export(card, out);
-    tell_list(e, out);
-    output::text(b"\n");
+    tell_list(to, e, out);
+    output::text(to, b"\n");
     true
 }
 
 // The same with a card and an output of as many bytes as the fields say, where there can be such.
-pub fn of_card(fields: &[u8; FIELDS]) -> bool {
+pub fn of_card(from: &mut impl Read, to: &mut impl Write, fields: &[u8; FIELDS]) -> bool {
     let n = card_block::four_at(fields, 0) as usize;
     let room = card_block::two_at(fields, 4) as usize;
     if ROOM < n {
@@ -75,71 +76,71 @@ pub fn of_card(fields: &[u8; FIELDS]) -> bool {
     }
     let mut card = lent::bytes();
     let mut out = lent::texts();
-    export_told(&mut card[..n], &mut out[..room])
+    export_told(from, to, &mut card[..n], &mut out[..room])
 }
 
 // Imports the first n bytes of a list that was exported, and says whether it has as many.
-fn import_again(list: &[u8], n: usize, out: &mut [u8]) -> bool {
+fn import_again(to: &mut impl Write, list: &[u8], n: usize, out: &mut [u8]) -> bool {
     if list.len() < n {
         return false;
     }
     let w = text_import::import(&list[..n], out);
-    tell_card(b"again", w, out);
+    tell_card(to, b"again", w, out);
     true
 }
 
 // Exports a card and imports its list, and says whether that can be.
-fn again(card: &[u8]) -> bool {
+fn again(to: &mut impl Write, card: &[u8]) -> bool {
     let mut list = lent::texts();
     let mut out = lent::bytes();
     match text_export::export(card, &mut list) {
-        Exported::Text(n) => import_again(&list, n, &mut out),
+        Exported::Text(n) => import_again(to, &list, n, &mut out),
         Exported::Refused(r) => {
-            tell_card(b"again", Written::Refused(r), &out);
+            tell_card(to, b"again", Written::Refused(r), &out);
             true
         }
     }
 }
 
 // The same with the card that follows, of as many bytes as are lent; says whether the input has it.
-fn again_told(card: &mut [u8]) -> bool {
-    if !input::fill(card) {
+fn again_told(from: &mut impl Read, to: &mut impl Write, card: &mut [u8]) -> bool {
+    if !input::fill(from, card) {
         return false;
     }
-    again(card)
+    again(to, card)
 }
 
 // The same with a card of as many bytes as the fields say, where there can be such.
-pub fn again_of_card(fields: &[u8; FIELDS]) -> bool {
+pub fn again_of_card(from: &mut impl Read, to: &mut impl Write, fields: &[u8; FIELDS]) -> bool {
     let n = card_block::four_at(fields, 0) as usize;
     if ROOM < n {
         return false;
     }
     let mut card = lent::bytes();
-    again_told(&mut card[..n])
+    again_told(from, to, &mut card[..n])
 }
 
 // Exports the card of the first n bytes, tells its list, and imports that; says whether there are as many bytes, and a list.
-fn list_and_again(card: &[u8], n: usize) -> bool {
+fn list_and_again(to: &mut impl Write, card: &[u8], n: usize) -> bool {
     if card.len() < n {
         return false;
     }
     let mut list = lent::texts();
     let mut out = lent::bytes();
     let e = text_export::export(&card[..n], &mut list);
-    tell_list(e, &list);
-    output::text(b" ");
+    tell_list(to, e, &list);
+    output::text(to, b" ");
     match e {
-        Exported::Text(k) => import_again(&list, k, &mut out),
+        Exported::Text(k) => import_again(to, &list, k, &mut out),
         Exported::Refused(r) => false,
     }
 }
 
 // The same with the card of the lists that follow, of m slots each; says whether the input has them, and there is a card.
-fn lists_told(fields: &[u8; FIELDS], m: usize) -> bool
+fn lists_told(from: &mut impl Read, to: &mut impl Write, fields: &[u8; FIELDS], m: usize) -> bool
     requires { m ≤ slots }
 {
-    let read = input::lists(m, m, m);
+    let read = input::lists(from, m, m, m);
     if !read.whole {
         return false;
     }
@@ -150,16 +151,16 @@ fn lists_told(fields: &[u8; FIELDS], m: usize) -> bool
     let l = input::eight_at(fields, 8);
     let mut card = lent::bytes();
     match card_writer::write(kind, l, &words[..m], &ones[..m], &twos[..m], &mut card) {
-        Written::Card(n) => list_and_again(&card, n),
+        Written::Card(n) => list_and_again(to, &card, n),
         Written::Refused(r) => false,
     }
 }
 
 // The same with lists of as many slots as the fields say, where there can be such.
-pub fn again_of_lists(fields: &[u8; FIELDS]) -> bool {
+pub fn again_of_lists(from: &mut impl Read, to: &mut impl Write, fields: &[u8; FIELDS]) -> bool {
     let m = card_block::two_at(fields, 16) as usize;
     if SLOTS < m {
         return false;
     }
-    lists_told(fields, m)
+    lists_told(from, to, fields, m)
 }

@@ -30,6 +30,8 @@
 // A call that refuses prints `refused N P`, for all but C and L with the hash of the whole output after it, or of both. n has four bytes, and is at
 // most 6,400, for I 16,384; kind and l have eight; a, b, c, m and `room` have two, and are at most 600, but `room` for I 6,400 and for X 16,384;
 // i, j and k have two, and are at most 6,400. A record that is none of these, or is cut, ends the run with the line `bad record`.
+#![tactic(auto)]
+
 mod count;
 mod fasta_records;
 mod listing;
@@ -38,6 +40,8 @@ mod settle;
 ghost use Rattle.std.specs.Prelude.{◌≤◌};
 ghost use Rattle.test_records.specs.Record.{field_bytes};
 
+use std::io;
+use std::io::{BufReader, BufWriter, Read, Write};
 use test_records::input::FIELDS;
 use test_records::{input, output};
 
@@ -59,44 +63,52 @@ fn bytes_of(tag: u8) -> usize
 }
 
 // Runs a record, and says whether there is such a record, and all of it.
-fn run(tag: u8, fields: &[u8; FIELDS]) -> bool {
+fn run(from: &mut impl Read, to: &mut impl Write, tag: u8, fields: &[u8; FIELDS]) -> bool {
     match tag {
-        b'C' => count::of_card(fields),
-        b'L' => count::of_lists(fields),
-        b'S' => settle::of_card(fields),
-        b'T' => settle::of_lists(fields),
-        b'I' => listing::of_list(fields),
-        b'X' => listing::of_card(fields),
-        b'Y' => listing::again_of_card(fields),
-        b'Z' => listing::again_of_lists(fields),
-        b'W' | b'R' => fasta_records::of_fields(tag, fields),
+        b'C' => count::of_card(from, to, fields),
+        b'L' => count::of_lists(from, to, fields),
+        b'S' => settle::of_card(from, to, fields),
+        b'T' => settle::of_lists(from, to, fields),
+        b'I' => listing::of_list(from, to, fields),
+        b'X' => listing::of_card(from, to, fields),
+        b'Y' => listing::again_of_card(from, to, fields),
+        b'Z' => listing::again_of_lists(from, to, fields),
+        b'W' | b'R' => fasta_records::of_fields(from, to, tag, fields),
         _ => false,
     }
 }
 
 // Reads the next record and runs it, and says whether there may be more.
-fn next() -> bool {
+fn next(from: &mut impl Read, to: &mut impl Write) -> bool {
     let mut tag = [0u8; 1];
-    if !input::fill(&mut tag) {
+    if !input::fill(from, &mut tag) {
         return false;
     }
     let mut fields = [0u8; FIELDS];
     let k = bytes_of(tag[0]);
-    if input::fill(&mut fields[..k]) {
-        if run(tag[0], &fields) {
+    if input::fill(from, &mut fields[..k]) {
+        if run(from, to, tag[0], &fields) {
             return true;
         }
     }
-    output::text(b"bad record\n");
+    output::text(to, b"bad record\n");
     false
 }
 
-fn main() {
+// Runs the records in turn.
+fn run_all(from: &mut impl Read, to: &mut impl Write) {
     let mut turns = TURNS;
     while 0 < turns {
-        if !next() {
+        if !next(from, to) {
             return;
         }
         turns -= 1;
     }
+}
+
+fn main(rt: HostRuntime) -> io::Result<()> {
+    let mut from = BufReader::new(rt.alloc(), rt.reader())?;
+    let mut to = BufWriter::new(rt.alloc(), io::writer(&rt))?;
+    run_all(&mut from, &mut to);
+    to.flush()
 }

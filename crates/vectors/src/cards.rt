@@ -4,6 +4,7 @@ ghost use Rattle.std.specs.Prelude.{◌≡◌, false, ◌≤◌, length};
 use crate::writing;
 use crate::writing::Wrote;
 use card_writer::Written;
+use std::io::{Read, Write};
 use test_records::input::FIELDS;
 use test_records::lent::SLOTS;
 use test_records::{input, output};
@@ -16,39 +17,44 @@ pub struct Turn {
 }
 
 // A record that is not one ends the run.
-pub fn bad() -> Turn
+pub fn bad(to: &mut impl Write) -> Turn
     ensures { (result.n ≡ 0) × (result.more ≡ false) }
 {
-    output::text(b"bad record\n");
+    output::text(to, b"bad record\n");
     Turn { n: 0, more: false }
 }
 
 // Sets the card to the n bytes that follow.
-pub fn set_card(card: &mut [u8], n: usize) -> Turn
+pub fn set_card(from: &mut impl Read, to: &mut impl Write, card: &mut [u8], n: usize) -> Turn
     ensures { result.n ≤ length card.new }
 {
     if card.len() < n {
-        return bad();
+        return bad(to);
     }
-    if !input::fill(&mut card[..n]) {
-        return bad();
+    if !input::fill(from, &mut card[..n]) {
+        return bad(to);
     }
     Turn { n, more: true }
 }
 
 // Sets the card to the one that the writer makes of the lists that follow, of as many slots as the fields say.
-pub fn write_card(card: &mut [u8], fields: &[u8; FIELDS]) -> Turn
+pub fn write_card(
+    from: &mut impl Read,
+    to: &mut impl Write,
+    card: &mut [u8],
+    fields: &[u8; FIELDS],
+) -> Turn
     ensures { result.n ≤ length card.new }
 {
     let m = card_block::two_at(fields, 16) as usize;
     if SLOTS < m {
-        return bad();
+        return bad(to);
     }
-    let Wrote::Is(w) = writing::write_lists(fields, m, m, m, card) else {
-        return bad();
+    let Wrote::Is(w) = writing::write_lists(from, fields, m, m, m, card) else {
+        return bad(to);
     };
     let Written::Card(n) = w else {
-        return bad();
+        return bad(to);
     };
     Turn { n, more: true }
 }

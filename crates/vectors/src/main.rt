@@ -22,6 +22,8 @@
 // A call that refuses prints `refused N P`, for L with the three hashes after it, for W, R and D with the output's. PLACES is `one P`,
 // `two P Q` or `span F G`. i, `at`, k, kind and l have eight bytes; a, b, c, m and `room` have two, and are at most 600, but `room` of W and
 // R at most 6,400. A record that is none of these, or is cut, ends the run with the line `bad record`.
+#![tactic(auto)]
+
 mod building;
 mod cards;
 mod reading;
@@ -31,6 +33,8 @@ ghost use Rattle.std.specs.Prelude.{◌≤◌, length};
 ghost use Rattle.test_records.specs.Record.{field_bytes};
 
 use cards::Turn;
+use std::io;
+use std::io::{BufReader, BufWriter, Read, Write};
 use test_records::input::FIELDS;
 use test_records::{input, output};
 
@@ -57,13 +61,13 @@ fn bytes_of(tag: u8) -> usize
 
 // Calls the operation of a tag that lends nothing, with the number x where it takes one, prints what it answers, and says whether there is such
 // a tag.
-fn plain(tag: u8, x: usize, card: &[u8]) -> bool {
+fn plain(to: &mut impl Write, tag: u8, x: usize, card: &[u8]) -> bool {
     match tag {
-        b'A' => reading::admit(card),
-        b'E' => reading::fetch_entry(card, x),
-        b'H' => reading::step(card, x),
-        b'B' => reading::fetch(card, x),
-        b'F' => reading::companion(card, x),
+        b'A' => reading::admit(to, card),
+        b'E' => reading::fetch_entry(to, card, x),
+        b'H' => reading::step(to, card, x),
+        b'B' => reading::fetch(to, card, x),
+        b'F' => reading::companion(to, card, x),
         _ => {
             return false;
         }
@@ -72,57 +76,70 @@ fn plain(tag: u8, x: usize, card: &[u8]) -> bool {
 }
 
 // Calls the operation of a tag on the card, prints what it answers, and says whether there is such a record, and all of it.
-fn answer(tag: u8, fields: &[u8; FIELDS], card: &[u8]) -> bool {
+fn answer(
+    from: &mut impl Read,
+    to: &mut impl Write,
+    tag: u8,
+    fields: &[u8; FIELDS],
+    card: &[u8],
+) -> bool {
     match tag {
-        b'L' => reading::admit_into(card, fields),
-        b'W' => writing::of_lists(fields),
-        b'R' => writing::again(card, fields),
-        b'D' => building::of_card(card, fields),
-        _ => plain(tag, input::eight_at(fields, 0), card),
+        b'L' => reading::admit_into(to, card, fields),
+        b'W' => writing::of_lists(from, to, fields),
+        b'R' => writing::again(to, card, fields),
+        b'D' => building::of_card(to, card, fields),
+        _ => plain(to, tag, input::eight_at(fields, 0), card),
     }
 }
 
 // Runs a record on the card, which is the first n bytes of its buffer.
-fn run(tag: u8, fields: &[u8; FIELDS], card: &mut [u8], n: usize) -> Turn
+fn run(
+    from: &mut impl Read,
+    to: &mut impl Write,
+    tag: u8,
+    fields: &[u8; FIELDS],
+    card: &mut [u8],
+    n: usize,
+) -> Turn
     requires { n ≤ length card.old }
     ensures { result.n ≤ length card.new }
 {
     if tag == b'C' {
-        return cards::set_card(card, card_block::four_at(fields, 0) as usize);
+        return cards::set_card(from, to, card, card_block::four_at(fields, 0) as usize);
     }
     if tag == b'G' {
-        return cards::write_card(card, fields);
+        return cards::write_card(from, to, card, fields);
     }
-    if answer(tag, fields, &card[..n]) {
-        output::text(b"\n");
+    if answer(from, to, tag, fields, &card[..n]) {
+        output::text(to, b"\n");
         return Turn { n, more: true };
     }
-    cards::bad()
+    cards::bad(to)
 }
 
 // Reads the next record, and runs it.
-fn next(card: &mut [u8], n: usize) -> Turn
+fn next(from: &mut impl Read, to: &mut impl Write, card: &mut [u8], n: usize) -> Turn
     requires { n ≤ length card.old }
     ensures { result.n ≤ length card.new }
 {
     let mut tag = [0u8; 1];
-    if !input::fill(&mut tag) {
+    if !input::fill(from, &mut tag) {
         return Turn { n: 0, more: false };
     }
     let mut fields = [0u8; FIELDS];
     let k = bytes_of(tag[0]);
-    if !input::fill(&mut fields[..k]) {
-        return cards::bad();
+    if !input::fill(from, &mut fields[..k]) {
+        return cards::bad(to);
     }
-    run(tag[0], &fields, card, n)
+    run(from, to, tag[0], &fields, card, n)
 }
 
 // Runs the records in turn.
-fn run_all(card: &mut [u8]) {
+fn run_all(from: &mut impl Read, to: &mut impl Write, card: &mut [u8]) {
     let mut n = 0;
     let mut turns = TURNS;
     while 0 < turns {
-        let t = next(card, n);
+        let t = next(from, to, card, n);
         if !t.more {
             return;
         }
@@ -131,7 +148,10 @@ fn run_all(card: &mut [u8]) {
     }
 }
 
-fn main() {
+fn main(rt: HostRuntime) -> io::Result<()> {
+    let mut from = BufReader::new(rt.alloc(), rt.reader())?;
+    let mut to = BufWriter::new(rt.alloc(), io::writer(&rt))?;
     let mut card = [0u8; MOST];
-    run_all(&mut card);
+    run_all(&mut from, &mut to, &mut card);
+    to.flush()
 }

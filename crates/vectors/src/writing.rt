@@ -6,6 +6,7 @@ ghost use Rattle.vectors.specs.Within.{Within};
 use card_entries::Format;
 use card_reader::Admitted;
 use card_writer::Written;
+use std::io::{Read, Write};
 use test_records::input::FIELDS;
 use test_records::lent::ROOM;
 use test_records::{input, lent, output};
@@ -18,20 +19,27 @@ pub enum Wrote {
 }
 
 // Tells what writing answers, the card's length or the refusal, and what the output holds afterwards.
-fn tell(w: Written, out: &[u8]) {
+fn tell(to: &mut impl Write, w: Written, out: &[u8]) {
     match w {
-        Written::Card(n) => output::one(b"written", n),
-        Written::Refused(r) => output::refused(r),
+        Written::Card(n) => output::one(to, b"written", n),
+        Written::Refused(r) => output::refused(to, r),
     }
-    output::hash(out)
+    output::hash(to, out)
 }
 
 // Reads lists of a, b and c slots, and writes a card of them, with the kind and l that the fields say.
-pub fn write_lists(fields: &[u8; FIELDS], a: usize, b: usize, c: usize, out: &mut [u8]) -> Wrote
+pub fn write_lists(
+    from: &mut impl Read,
+    fields: &[u8; FIELDS],
+    a: usize,
+    b: usize,
+    c: usize,
+    out: &mut [u8],
+) -> Wrote
     requires { (a ≤ slots) × (b ≤ slots) × (c ≤ slots) }
     ensures { Within (length out.old) result }
 {
-    let read = input::lists(a, b, c);
+    let read = input::lists(from, a, b, c);
     if !read.whole {
         return Wrote::Cut;
     }
@@ -49,18 +57,26 @@ pub fn write_lists(fields: &[u8; FIELDS], a: usize, b: usize, c: usize, out: &mu
 }
 
 // Reads lists and writes a card of them, tells the answer, and says whether the input has the lists.
-fn write_told(fields: &[u8; FIELDS], a: usize, b: usize, c: usize, out: &mut [u8]) -> bool
+fn write_told(
+    from: &mut impl Read,
+    to: &mut impl Write,
+    fields: &[u8; FIELDS],
+    a: usize,
+    b: usize,
+    c: usize,
+    out: &mut [u8],
+) -> bool
     requires { (a ≤ slots) × (b ≤ slots) × (c ≤ slots) }
 {
-    let Wrote::Is(w) = write_lists(fields, a, b, c, out) else {
+    let Wrote::Is(w) = write_lists(from, fields, a, b, c, out) else {
         return false;
     };
-    tell(w, out);
+    tell(to, w, out);
     true
 }
 
 // The same with lists of as many slots, and an output of as many bytes, as the fields say, where there can be such.
-pub fn of_lists(fields: &[u8; FIELDS]) -> bool {
+pub fn of_lists(from: &mut impl Read, to: &mut impl Write, fields: &[u8; FIELDS]) -> bool {
     let a = card_block::two_at(fields, 16) as usize;
     let b = card_block::two_at(fields, 18) as usize;
     let c = card_block::two_at(fields, 20) as usize;
@@ -72,21 +88,28 @@ pub fn of_lists(fields: &[u8; FIELDS]) -> bool {
         return false;
     }
     let mut out = lent::bytes();
-    write_told(fields, a, b, c, &mut out[..room])
+    write_told(from, to, fields, a, b, c, &mut out[..room])
 }
 
 // Writes a card of this format of the first m slots of each list.
-fn write_first(f: Format, words: &[u32], ones: &[u16], twos: &[u16], out: &mut [u8])
+fn write_first(
+    to: &mut impl Write,
+    f: Format,
+    words: &[u32],
+    ones: &[u16],
+    twos: &[u16],
+    out: &mut [u8],
+)
     requires { (f.m ≤ length words.now) × (f.m ≤ length ones.now) × (f.m ≤ length twos.now) }
 {
     let m = f.m;
     let w = card_writer::write(f.kind, f.l, &words[..m], &ones[..m], &twos[..m], out);
-    tell(w, out)
+    tell(to, w, out)
 }
 
 // Admits the card into lists, and writes it again of what they hold then, into an output of as many bytes as the fields say; answers whether
 // there can be such an output.
-pub fn again(card: &[u8], fields: &[u8; FIELDS]) -> bool {
+pub fn again(to: &mut impl Write, card: &[u8], fields: &[u8; FIELDS]) -> bool {
     let room = card_block::two_at(fields, 0) as usize;
     if ROOM < room {
         return false;
@@ -96,8 +119,8 @@ pub fn again(card: &[u8], fields: &[u8; FIELDS]) -> bool {
     let mut twos = lent::places();
     let mut out = lent::bytes();
     match card_reader::listing::admit_into(card, &mut words, &mut ones, &mut twos) {
-        Admitted::Card(f) => write_first(f, &words, &ones, &twos, &mut out[..room]),
-        Admitted::Refused(r) => tell(Written::Refused(r), &out[..room]),
+        Admitted::Card(f) => write_first(to, f, &words, &ones, &twos, &mut out[..room]),
+        Admitted::Refused(r) => tell(to, Written::Refused(r), &out[..room]),
     }
     true
 }

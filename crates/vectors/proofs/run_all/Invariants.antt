@@ -7,7 +7,7 @@ use lib.ListN.{length}
 use Rattle.vectors.proofs.run_all.Given as goal
 
 abbrev pub invariant-loop-turns : goal.invariant-loop-turns
-invariant-loop-turns l = (l.n ≤ length l.card) × (length l.card ≡ length l.initial.card)
+invariant-loop-turns g l = (l.n ≤ length l.card) × (length l.card ≡ length l.initial.card)
 
 abbrev pub decreases-loop-turns : goal.decreases-loop-turns
-decreases-loop-turns l = l.turns
+decreases-loop-turns g l = l.turns
