@@ -1,9 +1,7 @@
 -- `test_records::hashes::of_bytes` meets its contract. The invariant: the hash so far and what is left give the hash of all. Assumes nothing.
-use borrow.Author.Rules.{rules}
 use Prim.Native.Nat.{◌-◌}
-use native.Mathlib.Omega.{arith}
 use lib.ListN.{length}
-use Rattle.test_records.proofs.HashLaws.{SoFar, so_far_none, so_far_more, so_far_all}
+use Rattle.test_records.proofs.HashLaws.{SoFar}
 use Rattle.test_records.proofs.hashes.of_bytes.Given as goal
 
 abbrev pub invariant-loop-i : goal.invariant-loop-i

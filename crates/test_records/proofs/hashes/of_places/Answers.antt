@@ -1,9 +1,5 @@
 -- `test_records::hashes::of_places` meets its contract. The invariant: the hash so far and what is left give the hash of all. Assumes nothing.
-use borrow.Author.Rules.{rules}
-use Prim.Native.Nat.{◌-◌}
-use native.Mathlib.Omega.{arith}
-use lib.ListN.{length}
-use Rattle.test_records.proofs.HashLaws.{SoFar, so_far_none, so_far_more, so_far_all}
+use Rattle.test_records.proofs.HashLaws.{so_far_none, so_far_more, so_far_all}
 use Rattle.test_records.proofs.hashes.of_places.Goals as goal
 
 pub loop-i-init : goal.loop-i-init

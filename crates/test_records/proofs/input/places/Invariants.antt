@@ -1,6 +1,5 @@
 -- `test_records::input::places` meets its contract. The invariant: the list keeps its length. What falls is the number of slots that are left.
 -- Assumes nothing.
-use borrow.Author.Rules.{rules}
 use Prim.Native.Nat.{◌-◌}
 use mathlib.Core.Path.{◌≡◌}
 use lib.ListN.{length}
