@@ -75,8 +75,8 @@ pub fn places(from: &mut impl Read, n: usize) -> PlacesRead
 
 // Whether a record can have lists of so many slots.
 pub fn are_few(a: usize, b: usize, c: usize) -> bool
-    ensures a_le_slots { result ≡ true → (a ≤ slots) × (b ≤ slots) × (c ≤ slots) }
-    ensures value { (a ≤ slots) × (b ≤ slots) × (c ≤ slots) → result ≡ true }
+    ensures few_if_true { result ≡ true → (a ≤ slots) × (b ≤ slots) × (c ≤ slots) }
+    ensures true_if_few { (a ≤ slots) × (b ≤ slots) × (c ≤ slots) → result ≡ true }
 {
     if a <= SLOTS {
         if b <= SLOTS {

@@ -13,7 +13,7 @@ pub const LETTERS: usize = 600;
 
 // A list of words.
 pub fn words() -> [u32; SLOTS]
-    ensures slots_value { slots ≡ length result }
+    ensures len { slots ≡ length result }
     ensures value { result ≡ replicate slots old_word }
 {
     [305419896; SLOTS]
@@ -21,7 +21,7 @@ pub fn words() -> [u32; SLOTS]
 
 // A list of places.
 pub fn places() -> [u16; SLOTS]
-    ensures slots_value { slots ≡ length result }
+    ensures len { slots ≡ length result }
     ensures value { result ≡ replicate slots old_place }
 {
     [4660; SLOTS]
@@ -29,7 +29,7 @@ pub fn places() -> [u16; SLOTS]
 
 // Bytes: an output, or the room for a card.
 pub fn bytes() -> [u8; ROOM]
-    ensures room_value { room ≡ length result }
+    ensures len { room ≡ length result }
     ensures value { result ≡ replicate room old_byte }
 {
     [165; ROOM]
@@ -37,7 +37,7 @@ pub fn bytes() -> [u8; ROOM]
 
 // Bytes for a list that is a text: an output, or the room for one.
 pub fn texts() -> [u8; TEXT_ROOM]
-    ensures text_room_value { text_room ≡ length result }
+    ensures len { text_room ≡ length result }
     ensures value { result ≡ replicate text_room old_byte }
 {
     [165; TEXT_ROOM]

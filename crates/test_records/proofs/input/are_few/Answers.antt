@@ -12,10 +12,10 @@ never_true e = let z : ◌≡◌ {A = ℕ} 0 1 = cc in absurd (omega arith)
 pub returns-then-b-le-SLOTS : goal.returns-then-b-le-SLOTS
 returns-then-b-le-SLOTS c =
     let s = c.before.before in
-    record { a_le_slots = λ e. (c.if-a-le-SLOTS.true, c.if-b-le-SLOTS.true, leb-true s.args.c 600 e); value = λ h. le-leb s.args.c 600 h.2 }
+    record { few_if_true = λ e. (c.if-a-le-SLOTS.true, c.if-b-le-SLOTS.true, leb-true s.args.c 600 e); true_if_few = λ h. le-leb s.args.c 600 h.2 }
 
 pub returns-else-b-le-SLOTS : goal.returns-else-b-le-SLOTS
-returns-else-b-le-SLOTS c = record { a_le_slots = never_true; value = λ h. absurd (omega (arith, h.1, c.if-b-le-SLOTS.false)) }
+returns-else-b-le-SLOTS c = record { few_if_true = never_true; true_if_few = λ h. absurd (omega (arith, h.1, c.if-b-le-SLOTS.false)) }
 
 pub returns-else-a-le-SLOTS : goal.returns-else-a-le-SLOTS
-returns-else-a-le-SLOTS c = record { a_le_slots = never_true; value = λ h. absurd (omega (arith, h.0, c.if-a-le-SLOTS.false)) }
+returns-else-a-le-SLOTS c = record { few_if_true = never_true; true_if_few = λ h. absurd (omega (arith, h.0, c.if-a-le-SLOTS.false)) }
