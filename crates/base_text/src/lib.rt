@@ -1,5 +1,7 @@
 // Text put into a buffer, one part after the other: each function that puts a part puts it from `at` on, or at the start, answers where the next
 // begins, and asks for room for it.
+#![tactic(auto)]
+
 ghost use Rattle.std.specs.Prelude.{[], ◌∷◌, ◌++◌, ◌≡◌, ◌+◌, ◌≤◌, ◌<◌, length};
 ghost use Rattle.base_text.specs.Text.{ascii, digit, decimal, others, refusal_line};
 ghost use Rattle.base_text.specs.Putting.{most_digits, refusal_room, Put};

@@ -1,6 +1,5 @@
 -- `put_digit` meets its contract. Assumes nothing.
 use Rattle.base_text.proofs.PuttingLaws.{put_byte}
-use borrow.Author.Rules.{rules}
 use Rattle.base_text.proofs.put_digit.Goals as goal
 
 pub returns : goal.returns

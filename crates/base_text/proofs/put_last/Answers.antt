@@ -1,13 +1,6 @@
 -- `put_last` meets its contract. Assumes nothing.
-use borrow.Author.Rules.{rules}
 use Rattle.base_text.proofs.PuttingLaws.{put_then}
 use Rattle.base_text.proofs.put_last.Goals as goal
 
-slice-aggregate-put-text : tie.Need-slice-aggregate-put-text
-slice-aggregate-put-text c = search rules
-
-abbrev texted : goal.After-put_end-arg-1 → goal.After-put_text-next
-texted c = c.before.before.before
-
 pub returns : goal.returns
-returns c = let at = c.before.before in put_then (texted at.before).put_text-next.ensures at.put_end.ensures
+returns c = put_then c.put_text-next.ensures c.put_end.ensures

@@ -1,8 +1,6 @@
 -- `put_text` meets its contract: one byte more stands in each turn (`put_so_far_turn`). What falls is how many are left. Assumes nothing.
-use Prim.Native.Nat.{◌-◌}
 use native.Mathlib.Omega.{arith}
-use borrow.Author.Rules.{rules}
-use Rattle.base_text.proofs.PuttingLaws.{PutSoFar, put_so_far_none, put_so_far_length, put_so_far_turn, put_so_far_all}
+use Rattle.base_text.proofs.PuttingLaws.{put_so_far_none, put_so_far_length, put_so_far_turn, put_so_far_all}
 use Rattle.base_text.proofs.put_text.Goals as goal
 
 pub loop-i-init : goal.loop-i-init
@@ -10,8 +8,7 @@ loop-i-init c = put_so_far_none _ _ _ c.requires
 
 pub bounds-out-at : goal.bounds-out-at
 bounds-out-at c =
-    let at = c.before.before in
-    omega (arith, put_so_far_length _ _ _ at.loop-i.invariant, at.requires, c.loop-i-test.true)
+    omega (arith, put_so_far_length _ _ _ c.loop-i.invariant, c.requires, c.loop-i-test.true)
 
 pub loop-i-preserved : goal.loop-i-preserved
 loop-i-preserved c = put_so_far_turn _ _ _ c.loop-i.invariant c.loop-i-test.true

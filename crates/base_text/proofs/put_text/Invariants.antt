@@ -1,8 +1,6 @@
 -- `put_text` meets its contract: one byte more stands in each turn (`put_so_far_turn`). What falls is how many are left. Assumes nothing.
 use Prim.Native.Nat.{◌-◌}
-use native.Mathlib.Omega.{arith}
-use borrow.Author.Rules.{rules}
-use Rattle.base_text.proofs.PuttingLaws.{PutSoFar, put_so_far_none, put_so_far_length, put_so_far_turn, put_so_far_all}
+use Rattle.base_text.proofs.PuttingLaws.{PutSoFar}
 use Rattle.base_text.proofs.put_text.Given as goal
 
 abbrev pub invariant-loop-i : goal.invariant-loop-i
