@@ -16,11 +16,11 @@ pub struct Input {
 
 // Reads standard input, where the program was called with so many arguments. Where it was not, says on standard error how it is used; where a read
 // fails, of what, and why.
-pub fn read(arguments: usize, usage: &[u8], what: &[u8]) -> Input
+pub fn read(rt: &HostRuntime, arguments: usize, usage: &[u8], what: &[u8]) -> Input
     ensures { (length result.bytes ≡ program_bytes most_entries) × (result.n ≤ length result.bytes) }
 {
     let mut bytes = [0u8; BYTES];
-    let given = crate::take(&mut bytes, arguments, usage, what);
+    let given = crate::take(rt, &mut bytes, arguments, usage, what);
     let n = given.n;
     let whole = given.whole;
     Input { bytes, n, whole }

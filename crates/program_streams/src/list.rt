@@ -11,8 +11,8 @@ pub const BYTES: usize = MOST + 1;
 
 // Reads standard input to the start of the buffer, where the program was called without an argument. Where it was not, says on standard error how it
 // is used; where a read fails, of what, and why.
-pub fn read(bytes: &mut [u8; BYTES], usage: &[u8], what: &[u8]) -> Given
+pub fn read(rt: &HostRuntime, bytes: &mut [u8; BYTES], usage: &[u8], what: &[u8]) -> Given
     ensures { (length bytes.new ≡ list_bytes) × (result.n ≤ length bytes.new) }
 {
-    crate::take(bytes, 0, usage, what)
+    crate::take(rt, bytes, 0, usage, what)
 }

@@ -1,10 +1,8 @@
 -- `fill` meets its contract. The invariant: the buffer keeps its length, and no more was read than it holds. What falls is the room that is left.
 -- Assumes nothing.
-use mathlib.Core.Path.{◌≡◌, sym}
+use mathlib.Core.Path.{◌≡◌}
 use Prim.Native.Nat.{◌-◌, ◌≤◌}
 use lib.ListN.{length}
-use borrow.Author.Rules.{rules}
-use Rattle.program_streams.proofs.FillLaws.{first_bytes, first_fit, room_falls}
 use Rattle.program_streams.proofs.fill.Given as goal
 
 abbrev pub invariant-loop-n : goal.invariant-loop-n
