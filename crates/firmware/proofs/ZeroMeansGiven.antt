@@ -81,7 +81,7 @@ write_zero e = rw e refl
 -- reading a FASTA record, both ways
 module _ (r : List ℕ) (names letters : ℕ) where
   pub read_fasta_tells : {n p : ℕ} → reading r names letters ≡ refused n p → 0 < (fasta_answer (reading r names letters)).number
-  read_fasta_tells e = rw e (fasta_numbers.reading-number r names letters e)
+  read_fasta_tells e = rw e (fasta_numbers.reading_number r names letters e)
 
   pub read_fasta_zero : {parts : ℕ × ℕ} → reading r names letters ≡ given parts → (fasta_answer (reading r names letters)).number ≡ 0
   read_fasta_zero e = rw e refl

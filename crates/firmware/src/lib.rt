@@ -1,6 +1,8 @@
 // The boundary to C: the operations of the block layer, of the card's reader, of its writer, of probe lists, of FASTA records, build, settling
 // and the number of builds as exported functions. Numbers and slices go in, and a struct of numbers comes back. No function has a `requires`:
 // each operation tests its own input. The names that C sees begin with the project's.
+#![tactic(auto)]
+
 pub mod building;
 pub mod count;
 pub mod listing;

@@ -57,7 +57,7 @@ module _ {kind l b : ℕ} {es es' : List Slot} (wider : Paired Widens (map (entr
     (enters' : kind ≡ span → Hold most_entries (format_for span l es') es') where
   pub means_narrowed : {o o' : Outcome} → Means kind l es b o → Means kind l es' b o' → Narrowed o o'
   means_narrowed (on_pairs e (pairs.settles {v} t)) (on_pairs f (pairs.settles {v = v'} u)) =
-      spans_compare.no-later-narrowed v v'
+      spans_compare.no_later_narrowed v v'
       (pairs_meant.means_later {es = es} {es' = es'} {v = v} {v' = v'} {n = 0} {n' = 0} (rw e at wider) (pairs.settles t) (pairs.settles u))
       (omega arith)
   means_narrowed (on_spans e p) (on_spans f q) = spans_compare.means_narrowed (enters e) (enters' f) (rw e at wider) p q
@@ -184,7 +184,7 @@ holds_given (refuses e) hold = absurd (given_not_refused (sym hold ∙ e))
 
 means_larger : {kind l b c n : ℕ} {es : List Slot} {v : Verdict} → b ≤ c → Means kind l es b (settled v n) → Means kind l es c (settled v n)
 means_larger h (on_pairs e p) = on_pairs e p
-means_larger h (on_spans e p) = on_spans e (spans_compare.means-larger h p)
+means_larger h (on_spans e p) = on_spans e (spans_compare.means_larger h p)
 
 -- what settles the card is said of it under every larger budget, and with any output that has room
 pub settled_larger : {card : List ℕ} {b c room room' n : ℕ} {v : Verdict} → b ≤ c → Passes card room'

@@ -6,12 +6,12 @@ use Rattle.firmware.proofs.Laws.{empty_flat, part_there, part_flat}
 use Rattle.firmware.proofs.belfrymist_fetch.Goals as goal
 
 pub returns-then-part-eq0 : goal.returns-then-part-eq0
-returns-then-part-eq0 c = empty_flat _ _ c.fetch-part.ensures.0 c.if-part-eq0.true
+returns-then-part-eq0 c = empty_flat _ _ c.fetch-part.ensures.bytes c.if-part-eq0.true
 
 pub overflow_mul-result : goal.overflow_mul-result
 overflow_mul-result c =
     let start = c.args in
-    omega (arith, part_there start.card.now start.k c.fetch-part.ensures.0 c.if-part-eq0.false)
+    omega (arith, part_there start.card.now start.k c.fetch-part.ensures.bytes c.if-part-eq0.false)
 
 pub returns : goal.returns
-returns c = part_flat _ _ c.fetch-part.ensures.0 c.if-part-eq0.false
+returns c = part_flat _ _ c.fetch-part.ensures.bytes c.if-part-eq0.false
