@@ -7,64 +7,43 @@ use Rattle.pair_following.proofs.Slots.{Listing, list_start, list_none, slot_low
 use Rattle.pair_choosing.proofs.Choosing.{kept_none, weighed_start, weighing_more, weighed_end}
 use Rattle.pair_choosing.proofs.weigh.Goals as goal
 
-abbrev entered : goal.After-slice_known-2-1 → goal.Start
-entered c = c.before.before.before
-
-abbrev start : goal.At-loop-k → goal.Start
-start c = entered c.before.before
-
-abbrev turn : goal.After-with_tried-arg-in-loop-k-1 → goal.In-loop-k
-turn c = c.before.before
-
-abbrev lent_back : goal.After-slice_known-in-loop-k-2-1 → goal.After-put-1
-lent_back c = c.before.before.before
-
-abbrev called : goal.After-slice_known-in-loop-k-2-1 → goal.After-with_tried-s
-called c = (lent_back c).before
-
 pub loop-k-init : goal.loop-k-init
 loop-k-init c =
-    let a = entered c.before in
-    let pre = a.requires in
-    let none = list_none pre.0.links pre.1.1 a.args.mask in
-    rw c.last_slot-k.ensures (list_start pre.0.links pre.1.1, kept_none pre.0.shape, weighed_start none)
+    let pre = c.requires in
+    let none = list_none pre.ready.links pre.t_bound c.args.mask in
+    rw c.last_slot-k.ensures (list_start pre.ready.links pre.t_bound, kept_none pre.ready.shape, weighed_start none)
 
 pub with_tried-s-requires : goal.with_tried-s-requires
 with_tried-s-requires c =
-    let t = turn c in
-    let pre = (start t.before).requires in
-    let inv = t.loop-k.invariant in
-    let low = list_entry pre.0.links inv.0 t.loop-k-test.true in
-    let there = list_stands pre.0.links inv.0 t.loop-k-test.true (start t.before).args.mask in
-    (record { holds = pre.0.holds; links = pre.0.links; shape = inv.1.shape }, (rw inv.1.same pre.1.0, (low, pre.1.1, there)))
+    let pre = c.requires in
+    let inv = c.loop-k.invariant in
+    let low = list_entry pre.ready.links inv.0 c.loop-k-test.true in
+    let there = list_stands pre.ready.links inv.0 c.loop-k-test.true c.args.mask in
+    record { ready = record { holds = pre.ready.holds; links = pre.ready.links; shape = inv.1.shape }; closed = rw inv.1.same pre.closed; e_bound = (low, pre.t_bound, there) }
 
 pub slot_before-k-requires : goal.slot_before-k-requires
 slot_before-k-requires c =
-    let t = turn (called c).before in
-    slot_low (start t.before).requires.0.links t.loop-k.invariant.0 t.loop-k-test.true
+    slot_low c.requires.ready.links c.loop-k.invariant.0 c.loop-k-test.true
 
 pub loop-k-smaller : goal.loop-k-smaller
 loop-k-smaller c =
-    let t = turn (called c.before).before in
-    let links = (start t.before).requires.0.links in
-    rw c.slot_before-k.ensures (list_less links t.loop-k.invariant.0 t.loop-k-test.true)
+    let links = c.requires.ready.links in
+    rw c.slot_before-k.ensures (list_less links c.loop-k.invariant.0 c.loop-k-test.true)
 
 pub loop-k-preserved : goal.loop-k-preserved
 loop-k-preserved c =
-    let d = called c.before in
-    let t = turn d.before in
-    let pre = (start t.before).requires in
-    let inv = t.loop-k.invariant in
-    let more = t.loop-k-test.true in
-    let next = list_next pre.0.links inv.0 more (start t.before).args.mask in
-    let both = weighing_more pre.1.1 (list_entry pre.0.links inv.0 more) next inv.1 inv.2 d.with_tried-s.ensures in
-    rw c.slot_before-k.ensures (list_more pre.0.links inv.0 more, both.0, both.1)
+    let pre = c.requires in
+    let inv = c.loop-k.invariant in
+    let more = c.loop-k-test.true in
+    let next = list_next pre.ready.links inv.0 more c.args.mask in
+    let both = weighing_more pre.t_bound (list_entry pre.ready.links inv.0 more) next inv.1 inv.2 c.with_tried-s.ensures in
+    rw c.slot_before-k.ensures (list_more pre.ready.links inv.0 more, both.0, both.1)
 
 pub shape_of-put : goal.shape_of-put
-shape_of-put c = c.loop-k.invariant.1.shape.puts ∙ sym (start c.before).requires.0.shape.puts
+shape_of-put c = c.loop-k.invariant.1.shape.puts ∙ sym c.requires.ready.shape.puts
 
 pub shape_of-trail : goal.shape_of-trail
-shape_of-trail c = c.loop-k.invariant.1.shape.trails ∙ sym (start c.before).requires.0.shape.trails
+shape_of-trail c = c.loop-k.invariant.1.shape.trails ∙ sym c.requires.ready.shape.trails
 
 pub returns : goal.returns
 returns c = (c.loop-k.invariant.1, weighed_end c.loop-k-test.false c.loop-k.invariant.2)

@@ -4,11 +4,8 @@ use mathlib.Core.Logic.{inl, inr}
 use borrow.Author.Rules.{rules}
 use Rattle.pair_choosing.proofs.with_possible.Goals as goal
 
-abbrev start : goal.After-possible → goal.Start
-start c = c.before.before.before
-
 pub returns-then-possible : goal.returns-then-possible
 returns-then-possible c = inr (rw c.word_of.ensures at c.with_word.ensures)
 
 pub returns : goal.returns
-returns c = inl (λ x. c.possible.ensures.no c.if-possible.false (rw (start c.before).requires.2 x), refl, refl)
+returns c = inl (λ x. c.possible.ensures.no c.if-possible.false (rw c.requires.2 x), refl, refl)

@@ -7,42 +7,32 @@ use Rattle.pair_following.proofs.CommonLaws.{common_start, common_end}
 use Rattle.pair_choosing.proofs.Choosing.{common_also}
 use Rattle.pair_choosing.proofs.words_at.Goals as goal
 
-abbrev entered : goal.After-last_slot-k → goal.Start
-entered c = c.before.before.before
-
-abbrev start : goal.At-loop-k → goal.Start
-start c = entered c.before
-
 pub loop-k-init : goal.loop-k-init
 loop-k-init c =
-    let a = entered c in
     rw c.last_slot-k.ensures
-    (list_start a.requires.3 a.requires.0, common_start (list_none a.requires.3 a.requires.0 a.args.mask))
+    (list_start c.requires.3 c.requires.0, common_start (list_none c.requires.3 c.requires.0 c.args.mask))
 
 pub with_possible-s-requires : goal.with_possible-s-requires
 with_possible-s-requires c =
-    let pre = (start c.before).requires in
+    let pre = c.requires in
     let low = list_entry pre.3 c.loop-k.invariant.0 c.loop-k-test.true in
     (low, pre.2.words _ low, pre.1)
 
 pub slot_before-k-requires : goal.slot_before-k-requires
 slot_before-k-requires c =
-    let t = c.before in slot_low (start t.before).requires.3 t.loop-k.invariant.0 t.loop-k-test.true
+    slot_low c.requires.3 c.loop-k.invariant.0 c.loop-k-test.true
 
 pub loop-k-smaller : goal.loop-k-smaller
 loop-k-smaller c =
-    let t = c.before.before in
-    rw c.slot_before-k.ensures (list_less (start t.before).requires.3 t.loop-k.invariant.0 t.loop-k-test.true)
+    rw c.slot_before-k.ensures (list_less c.requires.3 c.loop-k.invariant.0 c.loop-k-test.true)
 
 pub loop-k-preserved : goal.loop-k-preserved
 loop-k-preserved c =
-    let t = c.before.before in
-    let a = start t.before in
-    let inv = t.loop-k.invariant in
-    let more = t.loop-k-test.true in
+    let inv = c.loop-k.invariant in
+    let more = c.loop-k-test.true in
     rw c.slot_before-k.ensures (
-      list_more a.requires.3 inv.0 more,
-      common_also a.requires.0 (list_entry a.requires.3 inv.0 more) (list_next a.requires.3 inv.0 more a.args.mask) inv.1
+      list_more c.requires.3 inv.0 more,
+      common_also c.requires.0 (list_entry c.requires.3 inv.0 more) (list_next c.requires.3 inv.0 more c.args.mask) inv.1
           c.with_possible-s.ensures,
     )
 

@@ -8,22 +8,17 @@ use Rattle.pair_following.specs.Following.{progress_of}
 use Rattle.pair_following.proofs.UndoLaws.{Undoing, undo_start, undo_more, undo_end}
 use Rattle.pair_following.proofs.undo.Goals as goal
 
--- the turn's entry is one of the list's
-low : (c : goal.In-loop-i)
-    → get_or c.args.trail.now c.loop-i.i 0 < length c.args.put.now
-low c = c.requires.1 c.loop-i.i c.loop-i-test.true
-
 pub loop-i-init : goal.loop-i-init
 loop-i-init c = undo_start
 
 pub offset_bounds-put-e : goal.offset_bounds-put-e
-offset_bounds-put-e c = omega (arith, low c.before, c.loop-i.invariant.count)
+offset_bounds-put-e c = omega (arith, c.requires.1 c.loop-i.i c.loop-i-test.true, c.loop-i.invariant.count)
 
 pub bounds-put-e : goal.bounds-put-e
-bounds-put-e c = omega (arith, low c.before, c.loop-i.invariant.count)
+bounds-put-e c = omega (arith, c.requires.1 c.loop-i.i c.loop-i-test.true, c.loop-i.invariant.count)
 
 pub loop-i-preserved : goal.loop-i-preserved
-loop-i-preserved c = undo_more c.loop-i.invariant c.loop-i-test.true (low c.before)
+loop-i-preserved c = undo_more c.loop-i.invariant c.loop-i-test.true (c.requires.1 c.loop-i.i c.loop-i-test.true)
 
 pub shape_of-put : goal.shape_of-put
 shape_of-put c = c.loop-i.invariant.count

@@ -10,41 +10,32 @@ use Rattle.pair_following.proofs.CommonLaws.{common_start, common_end}
 use Rattle.pair_forcing.proofs.SureLaws.{entry_also}
 use Rattle.pair_forcing.proofs.entries_at.Goals as goal
 
-abbrev entered : goal.After-last_slot-k → goal.Start
-entered c = c.before.before.before
-
-abbrev start : goal.At-loop-k → goal.Start
-start c = entered c.before
-
 pub loop-k-init : goal.loop-k-init
 loop-k-init c =
-    let pre = (entered c).requires in
+    let pre = c.requires in
     rw c.last_slot-k.ensures (list_start pre.2 pre.0, λ mask. common_start (list_none pre.2 pre.0 mask))
 
 pub with_entry-s-requires : goal.with_entry-s-requires
 with_entry-s-requires c =
-    let pre = (start c.before).requires in
+    let pre = c.requires in
     rw pre.1 (list_entry pre.2 c.loop-k.invariant.0 c.loop-k-test.true)
 
 pub slot_before-k-requires : goal.slot_before-k-requires
 slot_before-k-requires c =
-    let t = c.before in slot_low (start t.before).requires.2 t.loop-k.invariant.0 t.loop-k-test.true
+    slot_low c.requires.2 c.loop-k.invariant.0 c.loop-k-test.true
 
 pub loop-k-smaller : goal.loop-k-smaller
 loop-k-smaller c =
-    let t = c.before.before in
-    rw c.slot_before-k.ensures (list_less (start t.before).requires.2 t.loop-k.invariant.0 t.loop-k-test.true)
+    rw c.slot_before-k.ensures (list_less c.requires.2 c.loop-k.invariant.0 c.loop-k-test.true)
 
 pub loop-k-preserved : goal.loop-k-preserved
 loop-k-preserved c =
-    let t = c.before.before in
-    let a = start t.before in
-    let pre = a.requires in
-    let inv = t.loop-k.invariant in
-    let more = t.loop-k-test.true in
+    let pre = c.requires in
+    let inv = c.loop-k.invariant in
+    let more = c.loop-k-test.true in
     rw c.slot_before-k.ensures (
       list_more pre.2 inv.0 more,
-      λ mask. entry_also (pairs_of a.args.card.now mask) pre.0 (list_entry pre.2 inv.0 more)
+      λ mask. entry_also (pairs_of c.args.card.now mask) pre.0 (list_entry pre.2 inv.0 more)
           (list_next pre.2 inv.0 more mask) (inv.1 mask)
           (⊎_elim (λ x. inl (λ v. x.0 (rw pre.1 v), x.1, x.2)) inr c.with_entry-s.ensures),
     )

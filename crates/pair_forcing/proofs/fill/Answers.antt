@@ -16,9 +16,6 @@ long s s₀ i v h e = ap length e ∙ simp (length-append, length-replicate, len
 whole : (s s₀ : List ℕ) (i v : ℕ) → i ≤ length s₀ → length s ≤ i → s ≡ replicate i v ++ drop i s₀ → s ≡ replicate (length s₀) v
 whole s s₀ i v h l e = let x : i ≡ length s₀ = omega (arith, long s s₀ i v h e) in rw (x, drop-length, append-nil) at e
 
-below : (c : goal.In-loop-i) → c.loop-i.i < length c.args.s.now
-below c = let b = c.before in omega (arith, c.loop-i-test.true, long _ _ _ _ b.loop-i.invariant.0 b.loop-i.invariant.1)
-
 pub loop-i-init : goal.loop-i-init
 loop-i-init c = (omega arith, fill_none _ c.args.v)
 
@@ -27,14 +24,13 @@ bounds-s-i c = c.loop-i-test.true
 
 pub loop-i-smaller : goal.loop-i-smaller
 loop-i-smaller c =
-    let b = c.before in
-    omega (arith, c.loop-i-test.true, long _ _ _ _ b.loop-i.invariant.0 b.loop-i.invariant.1)
+    omega (arith, c.loop-i-test.true, long _ _ _ _ c.loop-i.invariant.0 c.loop-i.invariant.1)
 
 pub loop-i-preserved : goal.loop-i-preserved
 loop-i-preserved c =
-    let b = c.before in
-    let l = below c in
-    (omega arith, ap (λ (x : List ℕ). set x b.loop-i.i b.args.v) b.loop-i.invariant.1 ∙ fill_more _ _ _ l)
+    let below : c.loop-i.i < length c.args.s.now = omega (arith, c.loop-i-test.true, long _ _ _ _ c.loop-i.invariant.0 c.loop-i.invariant.1) in
+    let l = below in
+    (omega arith, ap (λ (x : List ℕ). set x c.loop-i.i c.args.v) c.loop-i.invariant.1 ∙ fill_more _ _ _ l)
 
 pub shape_of-s : goal.shape_of-s
 shape_of-s c = long _ _ _ _ c.loop-i.invariant.0 c.loop-i.invariant.1

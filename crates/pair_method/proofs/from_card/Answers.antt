@@ -5,24 +5,18 @@ use Rattle.pair_method.proofs.Built.{part_all}
 use borrow.Author.Rules.{rules}
 use Rattle.pair_method.proofs.from_card.Goals as goal
 
-abbrev start : goal.After-put-1 → goal.Start
-start c = c.before.before.before
-
-abbrev puts : goal.After-decide_from_start-arg-1 → goal.After-put-1
-puts c = c.before.before.before
-
 pub slice_bounds-decide_from_start-end : goal.slice_bounds-decide_from_start-end
-slice_bounds-decide_from_start-end c = sym (length-take-le _ _ (start c).requires.1.1)
+slice_bounds-decide_from_start-end c = sym (length-take-le _ _ c.requires.words_len.1)
 
 pub slice_bounds-decide_from_start-end-2 : goal.slice_bounds-decide_from_start-end-2
-slice_bounds-decide_from_start-end-2 c = sym (length-take-le _ _ (start c.before).requires.1.1)
+slice_bounds-decide_from_start-end-2 c = sym (length-take-le _ _ c.requires.words_len.1)
 
 pub slice_bounds-decide_from_start-end-3 : goal.slice_bounds-decide_from_start-end-3
-slice_bounds-decide_from_start-end-3 c = sym (length-take-le _ _ (start c.before.before).requires.1.1)
+slice_bounds-decide_from_start-end-3 c = sym (length-take-le _ _ c.requires.words_len.1)
 
 pub decide_from_start-requires : goal.decide_from_start-requires
 decide_from_start-requires c =
-    let pre = (start (puts c)).requires in
-    let few = pre.1.1 in
-    let all = pre.1.0 in
-    record { holds_pairs = pre.0; put_len = (part_all _ few all, part_all _ few all, part_all _ few all, all) }
+    let pre = c.requires in
+    let few = pre.words_len.1 in
+    let all = pre.words_len.0 in
+    record { holds_pairs = pre.holds_pairs; put_len = (part_all _ few all, part_all _ few all, part_all _ few all, all) }
