@@ -24,4 +24,4 @@ from_lists-requires c =
 
 pub returns : goal.returns
 returns c =
-    rw (take_at c.from_lists.new.1.1.1.1.1.0 _ _ c.from_lists.ensures.0) c.from_lists.ensures.1
+    rw (take_at c.from_lists.new.first _ _ c.from_lists.ensures.0) c.from_lists.ensures.1
