@@ -1,4 +1,6 @@
 // Where things stand on a card: what the reader and the writer share.
+#![tactic(auto)]
+
 ghost use Rattle.std.specs.Prelude.{◌≡◌, ◌+◌, ◌*◌, ◌/◌, ◌≤◌, ◌<◌, length, drop};
 ghost use Rattle.card_block.specs.Block.{block_bytes};
 ghost use Rattle.card_block.specs.Sealing.{sealed};

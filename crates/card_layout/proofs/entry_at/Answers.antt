@@ -1,8 +1,7 @@
 -- `card_layout::entry_at` meets its contract. Assumes nothing.
-use borrow.Author.Rules.{rules}
 use Rattle.card_layout.proofs.Laws.{entry_is}
 use mathlib.Core.Path.{◌∙◌}
 use Rattle.card_layout.proofs.entry_at.Goals as goal
 
 pub returns : goal.returns
-returns c = let start = c.before.before.before in c.entry_of.ensures ∙ entry_is _ _ start.requires.0 c.slot_of.ensures
+returns c = c.entry_of.ensures ∙ entry_is _ _ c.requires.0 c.slot_of.ensures

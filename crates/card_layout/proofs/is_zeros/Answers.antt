@@ -1,10 +1,6 @@
 -- `card_layout::is_zeros` meets its contract. The invariant: what was looked at and what is left are zeros exactly if all is. Assumes nothing.
 use borrow.Author.Rules.{rules}
-use Prim.Native.Nat.{◌≤◌, ◌-◌}
-use mathlib.Core.Path.{◌≡◌, refl}
-use mathlib.Core.Bool.{◌&&◌}
-use lib.ListN.{length, drop}
-use Rattle.card_layout.specs.Layout.{is_zeros}
+use mathlib.Core.Path.{refl}
 use Rattle.card_layout.proofs.Laws.{zeros_turn, zeros_end}
 use Rattle.card_layout.proofs.is_zeros.Goals as goal
 
@@ -13,8 +9,7 @@ loop-i-init c = (search rules, refl)
 
 pub loop-i-preserved : goal.loop-i-preserved
 loop-i-preserved c =
-    let turn = c.before in
-    let at = turn.loop-i in (search rules, zeros_turn _ at.i at.all _ at.invariant.1 turn.loop-i-test.true)
+    let at = c.loop-i in (search rules, zeros_turn _ at.i at.all _ at.invariant.1 c.loop-i-test.true)
 
 pub returns : goal.returns
 returns c = zeros_end _ _ _ _ c.loop-i.invariant.1 c.loop-i-test.false

@@ -1,11 +1,9 @@
 -- `card_layout::is_zeros` meets its contract. The invariant: what was looked at and what is left are zeros exactly if all is. Assumes nothing.
-use borrow.Author.Rules.{rules}
 use Prim.Native.Nat.{◌≤◌, ◌-◌}
-use mathlib.Core.Path.{◌≡◌, refl}
+use mathlib.Core.Path.{◌≡◌}
 use mathlib.Core.Bool.{◌&&◌}
 use lib.ListN.{length, drop}
 use Rattle.card_layout.specs.Layout.{is_zeros}
-use Rattle.card_layout.proofs.Laws.{zeros_turn, zeros_end}
 use Rattle.card_layout.proofs.is_zeros.Given as goal
 
 abbrev pub invariant-loop-i : goal.invariant-loop-i

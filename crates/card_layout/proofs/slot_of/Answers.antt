@@ -1,5 +1,4 @@
 -- `card_layout::slot_of` meets its contract. Assumes nothing.
-use borrow.Author.Rules.{rules}
 use Prim.Native.Nat.{ℕ, ◌+◌, ◌/◌, ◌%◌}
 use mathlib.Core.Path.{◌∙◌, ap}
 use mathlib.Core.List.{List}
@@ -11,9 +10,8 @@ use Rattle.card_layout.proofs.slot_of.Goals as goal
 
 pub slot_at-requires : goal.slot_at-requires
 slot_at-requires c =
-    let start = c.before.before in
-    rw c.part.ensures.0 (omega (arith, block_length start.args.card.now (1 + start.args.e / per_block) start.requires))
+    rw c.part.ensures.bytes (omega (arith, block_length c.args.card.now (1 + c.args.e / per_block) c.requires))
 
 pub returns : goal.returns
 unfolding slot_of
-returns c = c.slot_at.ensures ∙ ap (λ (b : List ℕ). slot_at b (c.args.e % per_block)) c.part.ensures.0
+returns c = c.slot_at.ensures ∙ ap (λ (b : List ℕ). slot_at b (c.args.e % per_block)) c.part.ensures.bytes

@@ -1,5 +1,4 @@
 -- `card_layout::slots_spare` meets its contract. Assumes nothing.
-use borrow.Author.Rules.{rules}
 use native.Mathlib.Omega.{arith}
 use lib.ListN.{length-take}
 use Rattle.card_layout.specs.Layout.{slots_spare}
