@@ -38,9 +38,9 @@ standing_wider : {l i : ℕ} {p : Option ℕ} {es es' order : List Entry} → Pa
     → Partners l i p es' order
 standing_wider nobody empty s = record { partners = []; each = empty; standing = s; same = refl }
 standing_wider (pair r p q ps) empty s = absurd (let h = length_taken p in omega arith)
-standing_wider ps (next t r) (stands a f more) =
+standing_wider {i = i} ps (next t r) (stands a f more) =
     let u = paired_take ps t in
-    let after = standing_wider u.4 r more in
+    let after = standing_wider {i = suc i} u.4 r more in
     record {
       partners = u.0 ∷ after.partners;
       each = next u.3 after.each;
