@@ -1,6 +1,8 @@
 // The words of the first build of a pair card, place by place: at each place every entry that can still stand there is tried, and the least
 // word that works is kept. Entries of equal words decide nothing here. The `pub` function has a `requires`: its caller has admitted the
 // lists and made one list of them.
+#![tactic(auto)]
+
 ghost use Rattle.std.specs.Prelude.{◌≡◌, ◌⊎◌, ◌<◌, ◌^◌, length};
 ghost use Rattle.pair_theory.specs.Arranged.{HasPlace};
 ghost use Rattle.pair_theory.specs.Chosen.{Closed, Upto};
@@ -83,7 +85,7 @@ fn can_stand_at(
 ) -> bool
     requires ready { Ready card.now mask (progress_of put.old trail.old n) }
     requires closed { Closed (pairs_of card.now mask) (nth put.old) }
-    requires e_bound { (e < count_in card.now) × (t < count_in card.now) × HasPlace (pairs_of card.now mask) e t }
+    requires allowed { (e < count_in card.now) × (t < count_in card.now) × HasPlace (pairs_of card.now mask) e t }
     ensures { Attempt
         (pairs_of card.now mask)
         (progress_of put.old trail.old n)
@@ -115,7 +117,7 @@ fn with_tried(
 ) -> Words
     requires ready { Ready card.now mask (progress_of put.old trail.old n) }
     requires closed { Closed (pairs_of card.now mask) (nth put.old) }
-    requires e_bound { (e < count_in card.now) × (t < count_in card.now) × HasPlace (pairs_of card.now mask) e t }
+    requires allowed { (e < count_in card.now) × (t < count_in card.now) × HasPlace (pairs_of card.now mask) e t }
     ensures { Kept (pairs_of card.now mask)
         (progress_of put.old trail.old n)
         (progress_of put.new trail.new n)
@@ -167,7 +169,7 @@ fn send_off(
 ) -> Step
     requires ready { Ready card.now mask (progress_of put.old trail.old n) }
     requires closed { Closed (pairs_of card.now mask) (nth put.old) }
-    requires e_bound { (e < count_in card.now) × (t < count_in card.now) × HasPlace (pairs_of card.now mask) e t }
+    requires allowed { (e < count_in card.now) × (t < count_in card.now) × HasPlace (pairs_of card.now mask) e t }
     ensures { Drops
         (pairs_of card.now mask)
         (progress_of put.old trail.old n)

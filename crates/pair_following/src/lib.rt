@@ -2,6 +2,8 @@
 // beside it, they go to their other places, and so on, until nothing more is forced or something clashes. Nothing here knows a byte of a
 // card: `card` is the list of its entries, three numbers for each slot, as specs/Following.antt says. The `pub` functions have a
 // `requires`: their callers have admitted the entries and made that list.
+#![tactic(auto)]
+
 ghost use Rattle.std.specs.Prelude.{◌≡◌, true, false, ◌≢◌, ℕ, ◌+◌, ◌*◌, ◌-◌, ◌≤◌, ◌<◌, ◌^◌, length};
 ghost use Rattle.pair_theory.specs.Arranged.{HasPlace, Goes};
 ghost use Rattle.pair_theory.specs.Chosen.{Closed, Possible};
@@ -85,8 +87,8 @@ fn overlap(card: &[usize], mask: u32, e: usize, f: usize) -> bool
 
 // Whether the entries e at p and f at q do not exclude each other.
 fn goes(card: &[usize], mask: u32, e: usize, p: usize, f: usize, q: usize) -> bool
-    requires holds_pairs { HoldsPairs card.now mask × (e < count_in card.now) × (f < count_in card.now) }
-    requires p_bound { (p < count_in card.now) × (q < count_in card.now) }
+    requires pairs { HoldsPairs card.now mask × (e < count_in card.now) × (f < count_in card.now) }
+    requires places_in_range { (p < count_in card.now) × (q < count_in card.now) }
     ensures { Decides (Goes (pairs_of card.now mask) e p f q) result }
 {
     if p == q {
@@ -112,9 +114,9 @@ fn exclude(
     f: usize,
     q: usize,
 ) -> Step
-    requires holds_pairs { HoldsPairs card.now mask }
+    requires pairs { HoldsPairs card.now mask }
     requires trail { Trail (count_in card.now) (progress_of put.old trail.old n) }
-    requires e_bound { (e < count_in card.now)
+    requires placed { (e < count_in card.now)
         × (f < count_in card.now)
         × (q < count_in card.now)
         × (nth put.old e < count_in card.now)
@@ -159,7 +161,7 @@ fn clear(
     q: usize,
 ) -> Step
     requires ready { Ready card.now mask (progress_of put.old trail.old n) }
-    requires e_bound { (e < count_in card.now) × (q < count_in card.now) × (nth put.old e < count_in card.now) }
+    requires placed { (e < count_in card.now) × (q < count_in card.now) × (nth put.old e < count_in card.now) }
     ensures { Grown
         (pairs_of card.now mask)
         (progress_of put.old trail.old n)
@@ -211,7 +213,7 @@ fn clear_beside(
     after: usize,
 ) -> Step
     requires ready { Ready card.now mask (progress_of put.old trail.old n) }
-    requires e_bound { (e < count_in card.now) × (nth put.old e < count_in card.now) }
+    requires placed { (e < count_in card.now) × (nth put.old e < count_in card.now) }
     ensures { Grown
         (pairs_of card.now mask)
         (progress_of put.old trail.old n)
@@ -246,7 +248,7 @@ fn exclude_all(
     e: usize,
 ) -> Step
     requires ready { Ready card.now mask (progress_of put.old trail.old n) }
-    requires e_bound { (e < count_in card.now) × (nth put.old e < count_in card.now) }
+    requires placed { (e < count_in card.now) × (nth put.old e < count_in card.now) }
     ensures { Grown
         (pairs_of card.now mask)
         (progress_of put.old trail.old n)
@@ -278,7 +280,7 @@ pub fn follow(
 ) -> Step
     requires ready { Ready card.now mask (progress_of put.old trail.old n) }
     requires closed { Closed (pairs_of card.now mask) (nth put.old) }
-    requires e_bound { (e < count_in card.now)
+    requires unplaced { (e < count_in card.now)
         × (count_in card.now ≤ nth put.old e)
         × (p < count_in card.now)
         × HasPlace (pairs_of card.now mask) e p }
@@ -333,7 +335,7 @@ pub fn attempt(
 ) -> bool
     requires ready { Ready card.now mask (progress_of put.old trail.old n) }
     requires closed { Closed (pairs_of card.now mask) (nth put.old) }
-    requires e_bound { (e < count_in card.now)
+    requires unplaced { (e < count_in card.now)
         × (count_in card.now ≤ nth put.old e)
         × (p < count_in card.now)
         × HasPlace (pairs_of card.now mask) e p }

@@ -1,5 +1,7 @@
 // What a pair card forces before any choice: a place with one entry left takes it, and so on. This spares time, and nothing else rests on
 // it. The function `force_before_choice` has a `requires`: its caller has admitted the lists and made one list of them.
+#![tactic(auto)]
+
 ghost use Rattle.std.specs.Prelude.{◌≡◌, true, ◌⊎◌, ℕ, ◌+◌, ◌*◌, ◌<◌, length, replicate};
 ghost use Rattle.pair_following.specs.Following.{nth, count_in, place_in, pairs_of, Links, progress_of, Ready, CanStand};
 ghost use Rattle.pair_following.specs.Common.{Common};

@@ -1,6 +1,8 @@
 // The verdict on a pair card and its number of builds, from lists of words and places: the entries and the list of each place are made into
 // one list, what is forced is followed, the words are chosen place by place, and every entry gets a place. `pair` and `settle` have a
 // `requires`: their caller has admitted the lists.
+#![tactic(auto)]
+
 ghost use Rattle.std.specs.Prelude.{◌≡◌, ℕ, ◌+◌, ◌*◌, ◌≤◌, ◌<◌, length, take};
 ghost use Rattle.card_entries.specs.Slot.{entries_in};
 ghost use Rattle.card_entries.specs.Bounds.{most_entries};
@@ -98,7 +100,7 @@ fn decide(
 ) -> FreeChoices
     requires ready { Ready card.now mask (progress_of put.old trail.old 0) }
     requires sure { Sure (pairs_of card.now mask) (nth put.old) }
-    requires count_len { (length count.old ≡ count_in card.now) × (length words.old ≡ count_in card.now) }
+    requires lengths { (length count.old ≡ count_in card.now) × (length words.old ≡ count_in card.now) }
     ensures { FindsBuild (pairs_of card.now mask) words.new result.choices result.found }
 {
     let r = pair_forcing::force_before_choice(card, mask, put, trail, 0, count);
@@ -129,7 +131,7 @@ fn decide_from_start(
     words: &mut [u32],
 ) -> FreeChoices
     requires holds_pairs { HoldsPairs card.now mask × Links card.now }
-    requires put_len { (length put.old ≡ count_in card.now)
+    requires lengths { (length put.old ≡ count_in card.now)
         × (length trail.old ≡ count_in card.now)
         × (length count.old ≡ count_in card.now)
         × (length words.old ≡ count_in card.now) }
@@ -143,7 +145,7 @@ fn decide_from_start(
 // The first build of the entries, where there is one: its words, place by place.
 fn from_card(card: &[usize], mask: u32, words: &mut [u32]) -> FreeChoices
     requires holds_pairs { HoldsPairs card.now mask × Links card.now }
-    requires words_len { (length words.old ≡ count_in card.now) × (length words.old ≤ most_entries) }
+    requires lengths { (length words.old ≡ count_in card.now) × (length words.old ≤ most_entries) }
     ensures { FindsBuild (pairs_of card.now mask) words.new result.choices result.found }
 {
     let m = words.len();
@@ -170,7 +172,7 @@ fn from_lists(
     first: &mut [u32],
 ) -> FreeChoices
     requires pair_lists { PairLists l words.now ones.now twos.now }
-    requires words_len_bound { (length words.now ≤ most_entries)
+    requires lengths { (length words.now ≤ most_entries)
         × (length card.old ≡ 6 * length words.now)
         × (length first.old ≡ length words.now) }
     ensures { (length first.new ≡ length words.now)

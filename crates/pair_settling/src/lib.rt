@@ -1,5 +1,7 @@
 // What is left of a pair card once the words of all places are chosen: each entry that has no place yet gets one. Whichever works will do,
 // since it spells the same. The `pub` function has a `requires`: its caller has admitted the lists and made one list of them.
+#![tactic(auto)]
+
 ghost use Rattle.std.specs.Prelude.{◌<◌};
 ghost use Rattle.pair_theory.specs.Chosen.{Closed};
 ghost use Rattle.pair_following.specs.Following.{nth, count_in, pairs_of, progress_of, Ready};

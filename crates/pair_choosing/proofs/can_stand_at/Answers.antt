@@ -9,9 +9,9 @@ returns-then-p-t c = let pre = c.requires in stand_there pre.ready.shape pre.clo
 pub returns-then-p-put : goal.returns-then-p-put
 returns-then-p-put c =
     let pre = c.requires in
-    stand_not pre.ready.shape pre.closed pre.e_bound.0 (rw pre.ready.shape.puts at c.if-p-put.true) c.if-p-t.false
+    stand_not pre.ready.shape pre.closed pre.allowed.0 (rw pre.ready.shape.puts at c.if-p-put.true) c.if-p-t.false
 
 pub attempt-requires : goal.attempt-requires
 attempt-requires c =
     let pre = c.requires in
-    record { ready = pre.ready; closed = pre.closed; e_bound = (pre.e_bound.0, rw pre.ready.shape.puts at c.if-p-put.false, pre.e_bound.1, pre.e_bound.2) }
+    record { ready = pre.ready; closed = pre.closed; unplaced = (pre.allowed.0, rw pre.ready.shape.puts at c.if-p-put.false, pre.allowed.1, pre.allowed.2) }

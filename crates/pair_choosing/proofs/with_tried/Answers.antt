@@ -7,7 +7,7 @@ use borrow.Author.Rules.{rules}
 use Rattle.pair_choosing.proofs.with_tried.Goals as goal
 
 pub word_of-requires : goal.word_of-requires
-word_of-requires c = let pre = c.requires in word_asks pre.ready.holds pre.e_bound.0
+word_of-requires c = let pre = c.requires in word_asks pre.ready.holds pre.allowed.0
 
 pub returns-then-can_stand_at : goal.returns-then-can_stand_at
 returns-then-can_stand_at c =

@@ -12,7 +12,7 @@ use Rattle.pair_following.proofs.clear.Goals as goal
 pub loop-k-init : goal.loop-k-init
 loop-k-init c =
     let pre = c.requires in
-    rw c.last_slot-k.ensures (list_start pre.ready.links pre.e_bound.1, clear_start c.args.mask pre.ready.links pre.e_bound.1 pre.ready.shape)
+    rw c.last_slot-k.ensures (list_start pre.ready.links pre.placed.1, clear_start c.args.mask pre.ready.links pre.placed.1 pre.ready.shape)
 
 pub exclude-g-requires : goal.exclude-g-requires
 exclude-g-requires c =
@@ -20,9 +20,9 @@ exclude-g-requires c =
     let more = c.loop-k-test.true in
     let low = list_entry pre.ready.links c.loop-k.invariant.0 more in
     let there = list_stands pre.ready.links c.loop-k.invariant.0 more c.args.mask in
-    let at = c.requires.e_bound in
+    let at = c.requires.placed in
     let placed : nth c.loop-k.put c.args.e < count_in c.args.card.now = rw (c.loop-k.invariant.1.grown.traced.keeps c.args.e at.0 at.2) at.2 in
-    record { holds_pairs = pre.ready.holds; trail = c.loop-k.invariant.1.grown.shape; e_bound = (pre.e_bound.0, low, pre.e_bound.1, placed, there) }
+    record { pairs = pre.ready.holds; trail = c.loop-k.invariant.1.grown.shape; placed = (pre.placed.0, low, pre.placed.1, placed, there) }
 
 pub slot_before-k-requires : goal.slot_before-k-requires
 slot_before-k-requires c =
@@ -38,10 +38,10 @@ loop-k-preserved c =
     let inv = c.loop-k.invariant in
     let more = c.loop-k-test.true in
     let grown = grown_ok c.exclude-g.ensures c.if-g.true in
-    let at = c.requires.e_bound in
+    let at = c.requires.placed in
     let placed : nth c.loop-k.put c.args.e < count_in c.args.card.now = rw (c.loop-k.invariant.1.grown.traced.keeps c.args.e at.0 at.2) at.2 in
     rw c.slot_before-k.ensures
-    (list_more pre.ready.links inv.0 more, clear_more c.args.mask pre.ready.links inv.0 inv.1 more pre.e_bound.0 placed grown)
+    (list_more pre.ready.links inv.0 more, clear_more c.args.mask pre.ready.links inv.0 inv.1 more pre.placed.0 placed grown)
 
 pub shape_of-put-else-g : goal.shape_of-put-else-g
 shape_of-put-else-g c =

@@ -19,7 +19,7 @@ returns-then-after-put c =
 
 pub clear-g-requires : goal.clear-g-requires
 clear-g-requires c =
-    let pre = c.requires in record { ready = pre.ready; e_bound = (pre.e_bound.0, omega (arith, c.if-after-put.false, c.if-after-eq0.false, c.requires.ready.shape.puts), pre.e_bound.1) }
+    let pre = c.requires in record { ready = pre.ready; placed = (pre.placed.0, omega (arith, c.if-after-put.false, c.if-after-eq0.false, c.requires.ready.shape.puts), pre.placed.1) }
 
 pub can_be_filled-requires : goal.can_be_filled-requires
 can_be_filled-requires c =

@@ -18,8 +18,8 @@ pub returns-then-was-q : goal.returns-then-was-q
 returns-then-was-q c =
     let pre = c.requires in
     grown_clash pre.trail
-    (clash_there pre.trail pre.e_bound.0 pre.e_bound.1 pre.e_bound.4 c.if-e-f.false pre.e_bound.3
-    (c.goes.ensures.no c.if-goes.false) c.if-was-q.true pre.e_bound.2)
+    (clash_there pre.trail pre.placed.0 pre.placed.1 pre.placed.4 c.if-e-f.false pre.placed.3
+    (c.goes.ensures.no c.if-goes.false) c.if-was-q.true pre.placed.2)
 
 pub returns-then-was-put : goal.returns-then-was-put
 returns-then-was-put c =
@@ -27,25 +27,25 @@ returns-then-was-put c =
     grown_still shape (λ d. inr (rw shape.puts at c.if-was-put.true, c.if-was-q.false))
 
 pub other-r-requires : goal.other-r-requires
-other-r-requires c = let pre = c.requires in other_asks pre.holds_pairs pre.e_bound.1 pre.e_bound.4
+other-r-requires c = let pre = c.requires in other_asks pre.pairs pre.placed.1 pre.placed.4
 
 pub returns-then-r-q : goal.returns-then-r-q
 returns-then-r-q c =
     let pre = c.requires in
     grown_clash pre.trail
-    (clash_only pre.trail pre.e_bound.0 pre.e_bound.1 pre.e_bound.4 c.if-e-f.false pre.e_bound.3
+    (clash_only pre.trail pre.placed.0 pre.placed.1 pre.placed.4 c.if-e-f.false pre.placed.3
     (c.goes.ensures.no c.if-goes.false)
     (sym c.other-r.ensures ∙ c.if-r-q.true))
 
 pub bounds-trail-n : goal.bounds-trail-n
 bounds-trail-n c =
     let pre = c.requires in
-    trail_room pre.trail pre.e_bound.1 (rw pre.trail.puts at c.if-was-put.false) pre.e_bound.2
+    trail_room pre.trail pre.placed.1 (rw pre.trail.puts at c.if-was-put.false) pre.placed.2
 
 pub returns : goal.returns
 returns c =
     let pre = c.requires in
-    grown_put pre.trail pre.e_bound.0 pre.e_bound.1 pre.e_bound.4 c.if-e-f.false pre.e_bound.3
+    grown_put pre.trail pre.placed.0 pre.placed.1 pre.placed.4 c.if-e-f.false pre.placed.3
     (c.goes.ensures.no c.if-goes.false) c.other-r.ensures
-    (rw c.other-r.ensures (other_inside pre.holds_pairs pre.e_bound.1 pre.e_bound.4)) c.if-r-q.false
+    (rw c.other-r.ensures (other_inside pre.pairs pre.placed.1 pre.placed.4)) c.if-r-q.false
     (rw pre.trail.puts at c.if-was-put.false)

@@ -11,22 +11,22 @@ use Rattle.pair_following.proofs.PlaceLaws.{Chasing, chase_start, chase_more, fo
 use Rattle.pair_following.proofs.follow.Goals as goal
 
 pub bounds-put-e : goal.bounds-put-e
-bounds-put-e c = let pre = c.requires in omega (arith, pre.ready.shape.puts, pre.e_bound.0)
+bounds-put-e c = let pre = c.requires in omega (arith, pre.ready.shape.puts, pre.unplaced.0)
 
 pub bounds-trail-n : goal.bounds-trail-n
 bounds-trail-n c =
     let pre = c.requires in
-    omega (arith, pre.ready.shape.trails, room pre.ready.shape pre.e_bound.0 pre.e_bound.1 pre.e_bound.2)
+    omega (arith, pre.ready.shape.trails, room pre.ready.shape pre.unplaced.0 pre.unplaced.1 pre.unplaced.2)
 
 pub overflow_add-far : goal.overflow_add-far
 overflow_add-far c =
     let pre = c.requires in
-    omega (arith, room pre.ready.shape pre.e_bound.0 pre.e_bound.1 pre.e_bound.2)
+    omega (arith, room pre.ready.shape pre.unplaced.0 pre.unplaced.1 pre.unplaced.2)
 
 pub loop-top-init : goal.loop-top-init
 loop-top-init c =
     let pre = c.requires in
-    chase_start pre.ready.shape pre.closed pre.e_bound.0 pre.e_bound.1 pre.e_bound.2 pre.e_bound.3
+    chase_start pre.ready.shape pre.closed pre.unplaced.0 pre.unplaced.1 pre.unplaced.2 pre.unplaced.3
 
 pub bounds-trail-top : goal.bounds-trail-top
 bounds-trail-top c =
@@ -35,7 +35,7 @@ bounds-trail-top c =
 pub exclude_all-g-requires : goal.exclude_all-g-requires
 exclude_all-g-requires c =
     let pre = c.requires in
-    let shape = c.loop-top.invariant.grown.shape in record { ready = record { holds = pre.ready.holds; links = pre.ready.links; shape = shape }; e_bound = (shape.inside _ c.loop-top-test.true, shape.placed _ c.loop-top-test.true) }
+    let shape = c.loop-top.invariant.grown.shape in record { ready = record { holds = pre.ready.holds; links = pre.ready.links; shape = shape }; placed = (shape.inside _ c.loop-top-test.true, shape.placed _ c.loop-top-test.true) }
 
 pub overflow_add-top : goal.overflow_add-top
 overflow_add-top c =
@@ -60,7 +60,7 @@ shape_of-trail-else-g c =
 pub returns-else-g : goal.returns-else-g
 returns-else-g c =
     let pre = c.requires in
-    follow_stop pre.ready.shape pre.closed pre.e_bound.0 pre.e_bound.1 pre.e_bound.2 pre.e_bound.3 {A = Unit {0}} c.if-g.false
+    follow_stop pre.ready.shape pre.closed pre.unplaced.0 pre.unplaced.1 pre.unplaced.2 pre.unplaced.3 {A = Unit {0}} c.if-g.false
     (grown_stops c.loop-top.invariant.grown c.exclude_all-g.ensures c.if-g.false)
 
 pub shape_of-put : goal.shape_of-put
@@ -72,5 +72,5 @@ shape_of-trail c = c.loop-top.invariant.grown.shape.trails ∙ sym c.requires.re
 pub returns : goal.returns
 returns c =
     let pre = c.requires in
-    follow_end pre.ready.shape pre.closed pre.e_bound.0 pre.e_bound.1 pre.e_bound.2 pre.e_bound.3 c.loop-top.invariant
+    follow_end pre.ready.shape pre.closed pre.unplaced.0 pre.unplaced.1 pre.unplaced.2 pre.unplaced.3 c.loop-top.invariant
     c.loop-top-test.false

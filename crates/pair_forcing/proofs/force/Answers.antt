@@ -19,7 +19,7 @@ follow-requires c =
     let pre = c.requires in
     let low = rw pre.ready.shape.puts at c.if-e-put.true in
     let unplaced = rw pre.ready.shape.puts at c.if-put-e.true in
-    record { ready = pre.ready; closed = pre.sure.closed; e_bound = (low, unplaced, pre.t_bound, c.has_place.ensures c.if-has_place.true) }
+    record { ready = pre.ready; closed = pre.sure.closed; unplaced = (low, unplaced, pre.t_bound, c.has_place.ensures c.if-has_place.true) }
 
 pub returns-then-has_place : goal.returns-then-has_place
 returns-then-has_place c =

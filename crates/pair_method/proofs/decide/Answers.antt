@@ -7,7 +7,7 @@ use Rattle.pair_method.proofs.decide.Goals as goal
 pub choose_all-a-requires : goal.choose_all-a-requires
 choose_all-a-requires c =
     let pre = c.requires in
-    let w = forced c.args.words.now pre.ready.holds pre.ready.links c.force_before_choice-r.ensures c.if-r.true pre.count_len.1 in
+    let w = forced c.args.words.now pre.ready.holds pre.ready.links c.force_before_choice-r.ensures c.if-r.true pre.lengths.1 in
     record { ready = w.0; closed = w.1.0; words_len = w.1.1.0; upto = w.1.1.1 }
 
 pub settle_all-requires : goal.settle_all-requires

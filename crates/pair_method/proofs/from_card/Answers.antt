@@ -6,17 +6,17 @@ use borrow.Author.Rules.{rules}
 use Rattle.pair_method.proofs.from_card.Goals as goal
 
 pub slice_bounds-decide_from_start-end : goal.slice_bounds-decide_from_start-end
-slice_bounds-decide_from_start-end c = sym (length-take-le _ _ c.requires.words_len.1)
+slice_bounds-decide_from_start-end c = sym (length-take-le _ _ c.requires.lengths.1)
 
 pub slice_bounds-decide_from_start-end-2 : goal.slice_bounds-decide_from_start-end-2
-slice_bounds-decide_from_start-end-2 c = sym (length-take-le _ _ c.requires.words_len.1)
+slice_bounds-decide_from_start-end-2 c = sym (length-take-le _ _ c.requires.lengths.1)
 
 pub slice_bounds-decide_from_start-end-3 : goal.slice_bounds-decide_from_start-end-3
-slice_bounds-decide_from_start-end-3 c = sym (length-take-le _ _ c.requires.words_len.1)
+slice_bounds-decide_from_start-end-3 c = sym (length-take-le _ _ c.requires.lengths.1)
 
 pub decide_from_start-requires : goal.decide_from_start-requires
 decide_from_start-requires c =
     let pre = c.requires in
-    let few = pre.words_len.1 in
-    let all = pre.words_len.0 in
-    record { holds_pairs = pre.holds_pairs; put_len = (part_all _ few all, part_all _ few all, part_all _ few all, all) }
+    let few = pre.lengths.1 in
+    let all = pre.lengths.0 in
+    record { holds_pairs = pre.holds_pairs; lengths = (part_all _ few all, part_all _ few all, part_all _ few all, all) }

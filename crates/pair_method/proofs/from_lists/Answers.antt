@@ -30,12 +30,12 @@ from_card-requires c =
     let pre = c.requires in
     let has = linked_has c.enter_all.ensures.has c.link.ensures in
     let holds = card_of_lem pre.pair_lists has masks in
-    record { holds_pairs = (holds, c.link.ensures.links); words_len = (pre.words_len_bound.2 ∙ sym (many pre.pair_lists has masks), rw pre.words_len_bound.2 pre.words_len_bound.0) }
+    record { holds_pairs = (holds, c.link.ensures.links); lengths = (pre.lengths.2 ∙ sym (many pre.pair_lists has masks), rw pre.lengths.2 pre.lengths.0) }
 
 pub returns : goal.returns
 returns c =
     let masks : suc (c.words_of-mask.result - 1) ≡ 4 ^ (c.args.l - 1) = omega (arith, c.words_of-mask.ensures, pow_pos (c.args.l - 1)) in
     let pre = c.requires in
     let has = linked_has c.enter_all.ensures.has c.link.ensures in
-    let all = c.first-1.given ∙ pre.words_len_bound.2 in
+    let all = c.first-1.given ∙ pre.lengths.2 in
     (all, gives pre.pair_lists has masks all c.from_card.ensures)

@@ -20,7 +20,7 @@ pub from_lists-requires : goal.from_lists-requires
 from_lists-requires c =
     let pre = c.requires in
     let few = few_entries pre.pair_lists in
-    record { pair_lists = pre.pair_lists; words_len_bound = (few, length-take-le _ _ (six_fit few), length-take-le _ _ pre.words_in_bounds) }
+    record { pair_lists = pre.pair_lists; lengths = (few, length-take-le _ _ (six_fit few), length-take-le _ _ pre.words_in_bounds) }
 
 pub returns : goal.returns
 returns c =

@@ -16,7 +16,7 @@ follow-g-requires c =
     let first : c.place_of-one.result < count_in c.args.card.now = let pre = c.requires in omega (arith, c.place_of-one.ensures, one_inside pre.ready.holds pre.e_bound) in
     let pre = c.requires in
     let unplaced = rw pre.ready.shape.puts at c.if-put-e.false in
-    record { ready = pre.ready; closed = pre.closed; e_bound = (pre.e_bound, unplaced, first, inl c.place_of-one.ensures) }
+    record { ready = pre.ready; closed = pre.closed; unplaced = (pre.e_bound, unplaced, first, inl c.place_of-one.ensures) }
 
 pub returns-then-g : goal.returns-then-g
 returns-then-g c =
@@ -35,7 +35,7 @@ follow-requires c =
     let pre = c.requires in
     let back = undone pre.ready.shape pre.closed pre.e_bound c.place_of-one.ensures c.place_of-two.ensures second c.if-g.false
     c.follow-g.ensures c.undo.ensures in
-    let unplaced = rw pre.ready.shape.puts at c.if-put-e.false in record { ready = record { holds = pre.ready.holds; links = pre.ready.links; shape = back.shape }; closed = rw back.same pre.closed; e_bound = (pre.e_bound, rw back.same unplaced, second, inr c.place_of-two.ensures) }
+    let unplaced = rw pre.ready.shape.puts at c.if-put-e.false in record { ready = record { holds = pre.ready.holds; links = pre.ready.links; shape = back.shape }; closed = rw back.same pre.closed; unplaced = (pre.e_bound, rw back.same unplaced, second, inr c.place_of-two.ensures) }
 
 pub returns : goal.returns
 returns c =
