@@ -1,4 +1,6 @@
 // Spelling words into letters: the sequence of an arrangement's words, as ASCII capitals.
+#![tactic(auto)]
+
 ghost use Rattle.std.specs.Prelude.{◌≡◌, map, ◌+◌, ◌<◌, length, get_or};
 ghost use Rattle.base_letters.specs.Letters.{codes, letter_of};
 ghost use Rattle.build_sequence.specs.Build.{spell};
