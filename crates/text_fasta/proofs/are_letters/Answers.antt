@@ -9,7 +9,7 @@ pub loop-i-init : goal.loop-i-init
 loop-i-init c = seen_none
 
 pub loop-i-preserved : goal.loop-i-preserved
-loop-i-preserved c = let turn = c.before.before in seen_turn turn.loop-i.invariant turn.loop-i-test.true c.is_letter-all.ensures
+loop-i-preserved c = seen_turn c.loop-i.invariant c.loop-i-test.true c.is_letter-all.ensures
 
 pub returns : goal.returns
 returns c = seen_all c.loop-i.invariant c.loop-i-test.false

@@ -11,9 +11,8 @@ loop-at-init c = seen_none
 
 pub loop-at-preserved : goal.loop-at-preserved
 loop-at-preserved c =
-    let turn = c.before.before in
-    let at = turn.loop-at in
-    seen_part at.invariant (omega arith) (omega (arith, at.invariant.within, turn.loop-at-test.true)) c.are_letters-all.ensures
+    let at = c.loop-at in
+    seen_part at.invariant (omega arith) (omega (arith, at.invariant.within, c.loop-at-test.true)) c.are_letters-all.ensures
 
 pub returns : goal.returns
 returns c = seen_rest c.loop-at.invariant c.are_letters.ensures

@@ -5,9 +5,8 @@ use borrow.Author.Rules.{rules}
 use Rattle.text_fasta.proofs.reading.fault_in.Goals as goal
 
 pub returns-in-Refused : goal.returns-in-Refused
-returns-in-Refused c = letters_fault _ (told_refused c.letters_hold.ensures c.r-1.given.1)
+returns-in-Refused c = letters_fault _ (told_refused c.letters_hold.ensures c.in-Refused.is)
 
 pub returns-in-Holds : goal.returns-in-Holds
 returns-in-Holds c =
-    let held = c.before.before in
-    lines_fault _ held.requires (told_holds held.letters_hold.ensures c.enum_told-1.given.1)
+    lines_fault _ c.requires (told_holds c.letters_hold.ensures c.in-Holds.is)

@@ -1,4 +1,5 @@
 -- `is_body` meets its contract: the lines so far are as they should be (`Looked`). Assumes nothing.
+use mathlib.Core.Path.{sym, ◌∙◌}
 use borrow.Author.Rules.{rules}
 use Prim.Native.Nat.{◌-◌}
 use native.Mathlib.Omega.{arith}
@@ -19,21 +20,17 @@ is_line-requires c = (end_after c.line_end-end.ensures, omega (arith, end_within
 
 pub returns-then-not-is_line : goal.returns-then-not-is_line
 returns-then-not-is_line c =
-    let at = c.before.before in
-    let turn = at.before in
-    looked_stop turn.loop-at.invariant at.line_end-end.ensures turn.loop-at-test.true (failed c.is_line.ensures c.if-not-is_line.true)
+    looked_stop c.loop-at.invariant c.line_end-end.ensures c.loop-at-test.true (sym c.is_line.ensures ∙ c.if-not-is_line.true)
 
 pub overflow_add-at : goal.overflow_add-at
-overflow_add-at c = let at = c.before.before in omega (arith, end_within at.line_end-end.ensures, at.loop-at-test.true)
+overflow_add-at c = omega (arith, end_within c.line_end-end.ensures, c.loop-at-test.true)
 
 pub loop-at-smaller : goal.loop-at-smaller
-loop-at-smaller c = let at = c.before.before in omega (arith, end_after at.line_end-end.ensures, at.loop-at-test.true)
+loop-at-smaller c = omega (arith, end_after c.line_end-end.ensures, c.loop-at-test.true)
 
 pub loop-at-preserved : goal.loop-at-preserved
 loop-at-preserved c =
-    let at = c.before.before in
-    let turn = at.before in
-    looked_turn turn.loop-at.invariant at.line_end-end.ensures turn.loop-at-test.true (passed c.is_line.ensures c.if-not-is_line.false)
+    looked_turn c.loop-at.invariant c.line_end-end.ensures c.loop-at-test.true (sym c.is_line.ensures ∙ c.if-not-is_line.false)
 
 pub returns : goal.returns
 returns c = looked_all c.loop-at.invariant (omega (arith, c.if-n-eq0.false)) c.loop-at-test.false

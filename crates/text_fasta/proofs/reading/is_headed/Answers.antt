@@ -15,7 +15,4 @@ returns-then-bytes-ne-MARK c = no_mark _ c.if-bytes-ne-MARK.true
 
 pub returns : goal.returns
 returns c =
-    let mark = c.before.before in
-    let tested = mark.before.before in
-    let start = tested.before.before in
-    headed_by_name _ start.requires tested.if-bytes-end.false mark.if-bytes-ne-MARK.false c.is_name.ensures
+    headed_by_name _ c.requires c.if-bytes-end.false c.if-bytes-ne-MARK.false c.is_name.ensures

@@ -14,30 +14,24 @@ pub loop-i-init : goal.loop-i-init
 loop-i-init c = counting_none
 
 pub loop-i-preserved-then-body-i-eq-NEWLINE : goal.loop-i-preserved-then-body-i-eq-NEWLINE
-loop-i-preserved-then-body-i-eq-NEWLINE c = let turn = c.before.before in counting_break turn.loop-i.invariant turn.loop-i-test.true c.if-body-i-eq-NEWLINE.true
+loop-i-preserved-then-body-i-eq-NEWLINE c = counting_break c.loop-i.invariant c.loop-i-test.true c.if-body-i-eq-NEWLINE.true
 
 pub returns-then-not-is_letter : goal.returns-then-not-is_letter
 returns-then-not-is_letter c =
-    let other = c.before.before.before in
-    let turn = other.before.before in
-    let none = failed c.is_letter.ensures c.if-not-is_letter.true in
-    let stop = counting_stop turn.loop-i.invariant turn.loop-i-test.true other.if-body-i-eq-NEWLINE.false none in
+    let none = sym c.is_letter.ensures ∙ c.if-not-is_letter.true in
+    let stop = counting_stop c.loop-i.invariant c.loop-i-test.true c.if-body-i-eq-NEWLINE.false none in
     letters_refused _ sound stop.0 stop.1
 
 pub loop-i-preserved : goal.loop-i-preserved
 loop-i-preserved c =
-    let other = c.before.before.before in
-    let turn = other.before.before in
-    counting_letter turn.loop-i.invariant turn.loop-i-test.true other.if-body-i-eq-NEWLINE.false (passed c.is_letter.ensures c.if-not-is_letter.false)
+    counting_letter c.loop-i.invariant c.loop-i-test.true c.if-body-i-eq-NEWLINE.false (sym c.is_letter.ensures ∙ c.if-not-is_letter.false)
 
 pub returns-then-k-eq0 : goal.returns-then-k-eq0
 returns-then-k-eq0 c =
-    let done = c.before in
-    let all = counting_all done.loop-i.invariant done.loop-i-test.false in
+    let all = counting_all c.loop-i.invariant c.loop-i-test.false in
     letters_refused _ sound (sym c.if-k-eq0.true ∙ all.1) (inr (sym all.0 ∙ c.if-k-eq0.true))
 
 pub returns : goal.returns
 returns c =
-    let done = c.before in
-    let all = counting_all done.loop-i.invariant done.loop-i-test.false in
+    let all = counting_all c.loop-i.invariant c.loop-i-test.false in
     letters_given _ sound (omega (arith, all.0, c.if-k-eq0.false)) (sym all.0 ∙ all.1)

@@ -13,9 +13,9 @@ pub is_headed-requires : goal.is_headed-requires
 is_headed-requires c = c.name_length-n.ensures
 
 pub returns-then-not-is_headed : goal.returns-then-not-is_headed
-returns-then-not-is_headed c = sym (first_fail _ Name 0 [] _ (failed c.is_headed.ensures c.if-not-is_headed.true))
+returns-then-not-is_headed c = sym (first_fail _ Name 0 [] _ (sym c.is_headed.ensures ∙ c.if-not-is_headed.true))
 
 pub returns : goal.returns
 returns c =
-    let headed = passed c.is_headed.ensures c.if-not-is_headed.false in
+    let headed = sym c.is_headed.ensures ∙ c.if-not-is_headed.false in
     ap given (name_found _ c.name_length-n.ensures headed) ∙ sym (first_last _ Name 0 _ headed)

@@ -9,5 +9,4 @@ returns-then-n-eq0 c = nothing_leads c.args.bytes.now c.if-n-eq0.true
 
 pub returns-then-n : goal.returns-then-n
 returns-then-n c =
-    let tested = c.before.before in
-    c.unbroken.ensures ∙ all_in_reach tested.args.bytes.now tested.if-n.true
+    c.unbroken.ensures ∙ all_in_reach c.args.bytes.now c.if-n.true

@@ -7,8 +7,7 @@ use Rattle.text_fasta.proofs.reading.read.Goals as goal
 
 pub read_named-requires : goal.read_named-requires
 read_named-requires c =
-    let told = c.before.before.before in
-    name_held _ _ _ _ _ (sym told.name_in.ensures ∙ ap says_named told.n-1.given.1)
+    name_held _ _ _ _ _ (sym c.name_in.ensures ∙ ap says_named c.in-Name.is)
 
 pub returns-in-Refused : goal.returns-in-Refused
-returns-in-Refused c = not_headed _ _ _ _ (sym c.name_in.ensures ∙ ap says_named c.r-1.given.1)
+returns-in-Refused c = not_headed _ _ _ _ (sym c.name_in.ensures ∙ ap says_named c.in-Refused.is)

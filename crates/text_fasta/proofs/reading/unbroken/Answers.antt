@@ -10,10 +10,10 @@ pub loop-i-init : goal.loop-i-init
 loop-i-init c = led_none
 
 pub returns-then-bytes-i-eq-NEWLINE : goal.returns-then-bytes-i-eq-NEWLINE
-returns-then-bytes-i-eq-NEWLINE c = let turn = c.before.before in led_stop turn.loop-i.invariant turn.loop-i-test.true (is_break _ c.if-bytes-i-eq-NEWLINE.true)
+returns-then-bytes-i-eq-NEWLINE c = led_stop c.loop-i.invariant c.loop-i-test.true (is_break _ c.if-bytes-i-eq-NEWLINE.true)
 
 pub loop-i-preserved : goal.loop-i-preserved
-loop-i-preserved c = let turn = c.before.before in led_turn turn.loop-i.invariant turn.loop-i-test.true (no_break_lem _ c.if-bytes-i-eq-NEWLINE.false)
+loop-i-preserved c = led_turn c.loop-i.invariant c.loop-i-test.true (no_break_lem _ c.if-bytes-i-eq-NEWLINE.false)
 
 pub returns : goal.returns
 returns c = led_all c.loop-i.invariant c.loop-i-test.false

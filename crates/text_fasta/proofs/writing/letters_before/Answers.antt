@@ -1,4 +1,5 @@
 -- `letters_before` meets its contract: the bytes so far are letters (`Led`). Assumes nothing.
+use mathlib.Core.Path.{sym, ◌∙◌}
 use borrow.Author.Rules.{rules}
 use Prim.Native.Nat.{◌-◌}
 use Rattle.base_lists.proofs.TestLaws.{failed, passed}
@@ -11,13 +12,11 @@ loop-i-init c = led_none
 
 pub returns-then-not-is_letter : goal.returns-then-not-is_letter
 returns-then-not-is_letter c =
-    let turn = c.before.before.before in
-    led_stop turn.loop-i.invariant turn.loop-i-test.true (failed c.is_letter.ensures c.if-not-is_letter.true)
+    led_stop c.loop-i.invariant c.loop-i-test.true (sym c.is_letter.ensures ∙ c.if-not-is_letter.true)
 
 pub loop-i-preserved : goal.loop-i-preserved
 loop-i-preserved c =
-    let turn = c.before.before.before in
-    led_turn turn.loop-i.invariant turn.loop-i-test.true (passed c.is_letter.ensures c.if-not-is_letter.false)
+    led_turn c.loop-i.invariant c.loop-i-test.true (sym c.is_letter.ensures ∙ c.if-not-is_letter.false)
 
 pub returns : goal.returns
 returns c = led_all c.loop-i.invariant c.loop-i-test.false

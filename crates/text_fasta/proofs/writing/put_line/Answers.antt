@@ -7,7 +7,5 @@ use Rattle.text_fasta.proofs.writing.put_line.Goals as goal
 
 pub returns : goal.returns
 returns c =
-    let texted = c.before.before in
-    let lent = texted.before in
-    let put = texted.put_text-end.ensures in
-    put_then put (put_byte _ _ newline (omega (arith, length_put put, put.ends, lent.requires)))
+    let put = c.put_text-end.ensures in
+    put_then put (put_byte _ _ newline (omega (arith, length_put put, put.ends, c.requires)))

@@ -20,25 +20,15 @@ slice_bounds-put_line-end c = end_within c.line_end-end.ensures
 
 pub put_line-to-requires : goal.put_line-to-requires
 put_line-to-requires c =
-    let at = c.before.before in
-    let turn = at.before in
-    lining_room turn.loop-i.invariant at.line_end-end.ensures turn.loop-i-test.true
-
--- where the line ends that is put
-abbrev ended : goal.After-put_line-to → goal.After-line_end-end
-ended c = c.before.before.before
+    lining_room c.loop-i.invariant c.line_end-end.ensures c.loop-i-test.true
 
 pub loop-i-smaller : goal.loop-i-smaller
 loop-i-smaller c =
-    let at = ended c.before.before in
-    omega (arith, end_more at.line_end-end.ensures at.loop-i-test.true, at.loop-i-test.true)
+    omega (arith, end_more c.line_end-end.ensures c.loop-i-test.true, c.loop-i-test.true)
 
 pub loop-i-preserved : goal.loop-i-preserved
 loop-i-preserved c =
-    let put = c.before.before in
-    let at = ended put in
-    let turn = at.before in
-    lining_turn turn.loop-i.invariant at.line_end-end.ensures turn.loop-i-test.true put.put_line-to.ensures
+    lining_turn c.loop-i.invariant c.line_end-end.ensures c.loop-i-test.true c.put_line-to.ensures
 
 pub shape_of-out : goal.shape_of-out
 shape_of-out c = lining_length c.loop-i.invariant
