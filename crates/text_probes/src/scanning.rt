@@ -115,7 +115,7 @@ fn line_after(s: Outline, t: Probe) -> Scanned
 // pair list.
 pub fn scan(text: &[u8], words: &mut [u32], ones: &mut [u16], twos: &mut [u16]) -> Scanned
     requires { (length ones.old ≡ length words.old) × (length twos.old ≡ length words.old) }
-    ensures result_value { says_scanned result ≡ scanning text.now }
+    ensures says { says_scanned result ≡ scanning text.now }
     ensures keeps { (s : Outline)
         → scanning text.now ≡ given s
         → Keeps (lines_in text.now) s.m words.new ones.new twos.new }

@@ -9,6 +9,4 @@ returns-then-kind-ne-SPAN c = for_pair _ c.args.ones.now _ c.if-kind-ne-SPAN.tru
 
 pub returns : goal.returns
 returns c =
-    let did = c.before.before in
-    let span = did.before.before in
-    did.close.ensures ∙ for_span _ span.args.ones.now _ span.if-kind-ne-SPAN.false
+    c.close.ensures ∙ for_span _ c.args.ones.now _ c.if-kind-ne-SPAN.false

@@ -7,19 +7,19 @@ use borrow.Author.Rules.{rules}
 use Rattle.text_probes.proofs.keeping.one_of.Goals as goal
 
 pub overflow_sub-result : goal.overflow_sub-result
-overflow_sub-result c = omega (arith, above_bare c.requires c.listed-1.given.1)
+overflow_sub-result c = omega (arith, above_bare c.requires c.in-Bare.is)
 
 pub overflow_sub-result-in-Two : goal.overflow_sub-result-in-Two
-overflow_sub-result-in-Two c = omega (arith, (above_two c.requires c.listed-in-Two-1.given.1).0)
+overflow_sub-result-in-Two c = omega (arith, (above_two c.requires c.in-Two.is).0)
 
 pub overflow_sub-result-in-Run : goal.overflow_sub-result-in-Run
-overflow_sub-result-in-Run c = omega (arith, (above_run c.requires c.listed-in-Run-1.given.1).0)
+overflow_sub-result-in-Run c = omega (arith, (above_run c.requires c.in-Run.is).0)
 
 pub returns-in-Bare : goal.returns-in-Bare
-returns-in-Bare c = sym (ap one_of c.listed-1.given.1)
+returns-in-Bare c = sym (ap one_of c.in-Bare.is)
 
 pub returns-in-Two : goal.returns-in-Two
-returns-in-Two c = sym (ap one_of c.listed-in-Two-1.given.1)
+returns-in-Two c = sym (ap one_of c.in-Two.is)
 
 pub returns-in-Run : goal.returns-in-Run
-returns-in-Run c = sym (ap one_of c.listed-in-Run-1.given.1)
+returns-in-Run c = sym (ap one_of c.in-Run.is)

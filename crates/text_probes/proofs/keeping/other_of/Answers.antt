@@ -8,16 +8,16 @@ use borrow.Author.Rules.{rules}
 use Rattle.text_probes.proofs.keeping.other_of.Goals as goal
 
 pub overflow_sub-result : goal.overflow_sub-result
-overflow_sub-result c = omega (arith, (above_two c.requires c.listed-1.given.1).1)
+overflow_sub-result c = omega (arith, (above_two c.requires c.in-Two.is).1)
 
 pub overflow_sub-result-in-Run : goal.overflow_sub-result-in-Run
-overflow_sub-result-in-Run c = omega (arith, (above_run c.requires c.listed-in-Run-1.given.1).1)
+overflow_sub-result-in-Run c = omega (arith, (above_run c.requires c.in-Run.is).1)
 
 pub returns-in-Bare : goal.returns-in-Bare
-returns-in-Bare c = sym (ap (two_of pair) c.enum_told-1.given.1)
+returns-in-Bare c = sym (ap (two_of pair) c.in-Bare.is)
 
 pub returns-in-Two : goal.returns-in-Two
-returns-in-Two c = sym (ap (two_of pair) c.listed-1.given.1)
+returns-in-Two c = sym (ap (two_of pair) c.in-Two.is)
 
 pub returns-in-Run : goal.returns-in-Run
-returns-in-Run c = sym (ap (two_of pair) c.listed-in-Run-1.given.1)
+returns-in-Run c = sym (ap (two_of pair) c.in-Run.is)

@@ -8,10 +8,10 @@ use borrow.Author.Rules.{rules}
 use Rattle.text_probes.proofs.line.code_in.Goals as goal
 
 pub overflow_cast-result : goal.overflow_cast-result
-overflow_cast-result c = omega (arith, code_below _ (sym c.code_of.ensures ∙ ap says_code c.c-1.given.1))
+overflow_cast-result c = omega (arith, code_below _ (sym c.code_of.ensures ∙ ap says_code c.in-Is.is))
 
 pub returns-in-Is : goal.returns-in-Is
-returns-in-Is c = ap code_in (sym (ap says_code c.c-1.given.1) ∙ c.code_of.ensures)
+returns-in-Is c = ap code_in (sym (ap says_code c.in-Is.is) ∙ c.code_of.ensures)
 
 pub returns-in-NoLetter : goal.returns-in-NoLetter
-returns-in-NoLetter c = ap code_in (sym (ap says_code c.enum_told-1.given.1) ∙ c.code_of.ensures)
+returns-in-NoLetter c = ap code_in (sym (ap says_code c.in-NoLetter.is) ∙ c.code_of.ensures)

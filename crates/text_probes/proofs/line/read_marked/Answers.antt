@@ -8,16 +8,11 @@ returns-then-text-at c = marked_past _ _ _ c.requires c.if-text-at.true
 
 pub returns-then-byte-eq-COMMA : goal.returns-then-byte-eq-COMMA
 returns-then-byte-eq-COMMA c =
-    let read = c.before in
-    let comma = read.before in
-    marked_comma _ _ _ comma.if-text-at.false read.read_number.result read.read_number.ensures comma.if-byte-eq-COMMA.true c.two_of.ensures
+    marked_comma _ _ _ c.if-text-at.false c.read_number.result c.read_number.ensures c.if-byte-eq-COMMA.true c.two_of.ensures
 
 pub returns-then-byte-eq-HYPHEN : goal.returns-then-byte-eq-HYPHEN
 returns-then-byte-eq-HYPHEN c =
-    let read = c.before in
-    let hyphen = read.before in
-    let other = hyphen.before in
-    marked_hyphen _ _ _ other.if-text-at.false read.read_number-then-byte-eq-HYPHEN.result read.read_number-then-byte-eq-HYPHEN.ensures other.if-byte-eq-COMMA.false hyphen.if-byte-eq-HYPHEN.true c.run_of.ensures
+    marked_hyphen _ _ _ c.if-text-at.false c.read_number-then-byte-eq-HYPHEN.result c.read_number-then-byte-eq-HYPHEN.ensures c.if-byte-eq-COMMA.false c.if-byte-eq-HYPHEN.true c.run_of.ensures
 
 pub returns : goal.returns
-returns c = let other = c.before in marked_bare _ _ _ other.if-text-at.false other.if-byte-eq-COMMA.false c.if-byte-eq-HYPHEN.false
+returns c = marked_bare _ _ _ c.if-text-at.false c.if-byte-eq-COMMA.false c.if-byte-eq-HYPHEN.false

@@ -1,4 +1,5 @@
 -- `read_word` meets its contract. The invariant is `Spelling`. What falls is how many bytes are left. Assumes nothing.
+use mathlib.Core.Path.{sym, ◌∙◌}
 use Prim.Native.Nat.{◌-◌}
 use native.Mathlib.Omega.{arith}
 use lib.ListN.{get_or}
@@ -7,31 +8,22 @@ use Rattle.base_lists.proofs.TestLaws.{failed, passed}
 use Rattle.text_probes.proofs.WordCursor.{in_below, Spelling, spelling_none, spelling_stop, spelling_turn, spelling_end}
 use Rattle.text_probes.proofs.line.read_word.Goals as goal
 
-abbrev looped : goal.After-code_in → goal.At-loop-end
-looped c = let tested = c.before.before.before in tested.before.before.before
-
-abbrev started : goal.After-code_in → goal.Start
-started c = (looped c).before.before
-
 pub loop-end-init : goal.loop-end-init
 loop-end-init c = spelling_none _ _ c.requires
 
 pub returns-then-not-is_letter : goal.returns-then-not-is_letter
 returns-then-not-is_letter c =
-    let turn = c.before.before.before in
-    spelling_stop _ _ turn.loop-end.invariant turn.loop-end-test.true (failed c.is_letter.ensures c.if-not-is_letter.true)
+    spelling_stop _ _ c.loop-end.invariant c.loop-end-test.true (sym c.is_letter.ensures ∙ c.if-not-is_letter.true)
 
 pub overflow_mul-value : goal.overflow_mul-value
 overflow_mul-value c = omega arith
 
 pub overflow_add-value : goal.overflow_add-value
-overflow_add-value c = omega (arith, c.Code-in.ensures, in_below (get_or (started c).args.text.now (looped c).loop-end.end 0))
+overflow_add-value c = omega (arith, c.code_in.ensures, in_below (get_or c.args.text.now c.loop-end.end 0))
 
 pub loop-end-preserved : goal.loop-end-preserved
 loop-end-preserved c =
-    let letter = c.before.before.before in
-    let turn = letter.before.before in
-    rw c.Code-in.ensures (spelling_turn _ _ turn.loop-end.invariant turn.loop-end-test.true (passed letter.is_letter.ensures c.if-not-is_letter.false))
+    rw c.code_in.ensures (spelling_turn _ _ c.loop-end.invariant c.loop-end-test.true (sym c.is_letter.ensures ∙ c.if-not-is_letter.false))
 
 pub returns : goal.returns
 returns c = spelling_end _ _ c.loop-end.invariant c.loop-end-test.false

@@ -6,7 +6,7 @@ use borrow.Author.Rules.{rules}
 use Rattle.text_probes.proofs.line.two_of.Goals as goal
 
 pub returns-in-Number : goal.returns-in-Number
-returns-in-Number c = ap (lists_both Two c.args.p) (sym c.q-1.given.1)
+returns-in-Number c = ap (lists_both Two c.args.p) (sym c.in-Number.is)
 
 pub returns-in-NoNumber : goal.returns-in-NoNumber
-returns-in-NoNumber c = ap (lists_both Two c.args.p) (sym c.enum_told-1.given.1)
+returns-in-NoNumber c = ap (lists_both Two c.args.p) (sym c.in-NoNumber.is)

@@ -1,5 +1,5 @@
 -- `read_digits` meets its contract. The invariant: the digits that are left read as all do. What falls is how many are left. Assumes nothing.
-use mathlib.Core.Path.{◌≡◌, refl, ◌∙◌}
+use mathlib.Core.Path.{◌≡◌, refl, ◌∙◌, sym}
 use mathlib.Core.Bool.{true}
 use mathlib.Core.List.{List}
 use Prim.Native.Nat.{ℕ, ◌-◌, ◌≤◌}
@@ -13,54 +13,36 @@ use Rattle.text_probes.proofs.NumberLaws.{digit_is}
 use Rattle.text_probes.proofs.NumberCursor.{digits_stop, digits_over, digits_on, digits_out}
 use Rattle.text_probes.proofs.number.read_digits.Goals as goal
 
--- the byte is a digit
-module _ (c : goal.After-shared_slice_known-in-loop-i-2-1) where
-  abbrev turn-of : goal.In-loop-i
-  turn-of = let tested = c.before in tested.before.before.before
-
-  abbrev text : List ℕ
-  text = turn-of.args.text.now
-
-  digit : is_digit (get_or text turn-of.loop-i.i 0) ≡ true
-  digit = passed c.is_digit.ensures c.if-not-is_digit.false
-
-  ends : (digit0 ≤ get_or text turn-of.loop-i.i 0)
-      × (get_or text turn-of.loop-i.i 0 ≤ digit9)
-  ends = digit_is _ digit
-
 pub loop-i-init : goal.loop-i-init
 loop-i-init c = (c.requires, refl, omega (arith, c.ranges.first.fits))
 
 pub returns-then-not-is_digit : goal.returns-then-not-is_digit
 returns-then-not-is_digit c =
-    let turn = c.before.before.before in
-    let so_far = turn.loop-i.invariant in
-    record { says = digits_stop _ _ _ turn.loop-i-test.true (failed c.is_digit.ensures c.if-not-is_digit.true) ∙ so_far.1; within = so_far.0 }
+    let so_far = c.loop-i.invariant in
+    record { says = digits_stop _ _ _ c.loop-i-test.true (sym c.is_digit.ensures ∙ c.if-not-is_digit.true) ∙ so_far.1; within = so_far.0 }
 
 pub overflow_mul-w : goal.overflow_mul-w
-overflow_mul-w c = let turn = c.before.before.before in omega (arith, turn.loop-i.invariant.2)
+overflow_mul-w c = omega (arith, c.loop-i.invariant.2)
 
 pub overflow_sub-w : goal.overflow_sub-w
-overflow_sub-w c = omega (arith, (ends c).0)
+overflow_sub-w c = omega (arith, (digit_is (get_or c.args.text.now c.loop-i.i 0) (sym c.is_digit.ensures ∙ c.if-not-is_digit.false)).0)
 
 pub overflow_cast-w-in-loop-i : goal.overflow_cast-w-in-loop-i
-overflow_cast-w-in-loop-i c = omega (arith, (ends c).1)
+overflow_cast-w-in-loop-i c = omega (arith, (digit_is (get_or c.args.text.now c.loop-i.i 0) (sym c.is_digit.ensures ∙ c.if-not-is_digit.false)).1)
 
 pub overflow_add-w : goal.overflow_add-w
-overflow_add-w c = omega (arith, (ends c).1, (turn-of c).loop-i.invariant.2)
+overflow_add-w c = omega (arith, (digit_is (get_or c.args.text.now c.loop-i.i 0) (sym c.is_digit.ensures ∙ c.if-not-is_digit.false)).1, c.loop-i.invariant.2)
 
 pub returns-then-w-gt-MOST_NUMBER : goal.returns-then-w-gt-MOST_NUMBER
 returns-then-w-gt-MOST_NUMBER c =
-    let turn = turn-of c.before in
-    record { says = digits_over _ _ _ turn.loop-i-test.true (digit c.before) c.if-w-gt-MOST_NUMBER.true ∙ turn.loop-i.invariant.1; within = omega arith }
+    record { says = digits_over _ _ _ c.loop-i-test.true (sym c.is_digit.ensures ∙ c.if-not-is_digit.false) c.if-w-gt-MOST_NUMBER.true ∙ c.loop-i.invariant.1; within = omega arith }
 
 pub overflow_cast-v : goal.overflow_cast-v
 overflow_cast-v c = omega (arith, c.if-w-gt-MOST_NUMBER.false)
 
 pub loop-i-preserved : goal.loop-i-preserved
 loop-i-preserved c =
-    let turn = turn-of c.before in
-    (search rules, digits_on _ _ _ turn.loop-i-test.true (digit c.before) c.if-w-gt-MOST_NUMBER.false ∙ turn.loop-i.invariant.1, c.if-w-gt-MOST_NUMBER.false)
+    (search rules, digits_on _ _ _ c.loop-i-test.true (sym c.is_digit.ensures ∙ c.if-not-is_digit.false) c.if-w-gt-MOST_NUMBER.false ∙ c.loop-i.invariant.1, c.if-w-gt-MOST_NUMBER.false)
 
 pub returns : goal.returns
 returns c = record { says = digits_out _ _ _ c.loop-i-test.false ∙ c.loop-i.invariant.1; within = omega arith }

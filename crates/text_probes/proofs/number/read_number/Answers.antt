@@ -1,5 +1,5 @@
 -- `read_number` meets its contract (`NumberCursor`). Assumes nothing.
-use mathlib.Core.Path.{◌≡◌, ◌∙◌}
+use mathlib.Core.Path.{◌≡◌, ◌∙◌, sym}
 use mathlib.Core.Bool.{true}
 use Prim.Native.Nat.{◌≤◌}
 use native.Mathlib.Omega.{arith}
@@ -11,18 +11,6 @@ use Rattle.text_probes.proofs.NumberCursor.{number_past, number_zero, number_no,
 use borrow.Author.Rules.{rules}
 use Rattle.text_probes.proofs.number.read_number.Goals as goal
 
-abbrev start : goal.Else-not-is_digit → goal.Start
-start c = let known = c.before.before.before in known.before.before.before
-
--- the byte is a digit
-digit : (c : goal.Else-not-is_digit) → is_digit (get_or (start c).args.text.now (start c).args.at 0) ≡ true
-digit c = passed c.is_digit.ensures c.if-not-is_digit.false
-
-ends : (c : goal.Else-not-is_digit)
-    → (digit0 ≤ get_or (start c).args.text.now (start c).args.at 0)
-    × (get_or (start c).args.text.now (start c).args.at 0 ≤ digit9)
-ends c = digit_is _ (digit c)
-
 pub returns-then-text-at : goal.returns-then-text-at
 returns-then-text-at c = record { says = number_past _ _ c.if-text-at.true; within = omega arith }
 
@@ -33,20 +21,18 @@ returns-then-byte-eq-DIGIT_0 c =
 
 pub returns-then-not-is_digit : goal.returns-then-not-is_digit
 returns-then-not-is_digit c =
-    let other = c.before.before in
-    record { says = number_no _ _ other.if-text-at.false other.if-byte-eq-DIGIT_0.false (failed c.is_digit.ensures c.if-not-is_digit.true); within = omega arith }
+    record { says = number_no _ _ c.if-text-at.false c.if-byte-eq-DIGIT_0.false (sym c.is_digit.ensures ∙ c.if-not-is_digit.true); within = omega arith }
 
 pub overflow_sub-byte : goal.overflow_sub-byte
-overflow_sub-byte c = omega (arith, (ends c).0)
+overflow_sub-byte c = omega (arith, (digit_is (get_or c.args.text.now c.args.at 0) (sym c.is_digit.ensures ∙ c.if-not-is_digit.false)).0)
 
 pub overflow_cast-byte : goal.overflow_cast-byte
-overflow_cast-byte c = omega (arith, (ends c).1)
+overflow_cast-byte c = omega (arith, (digit_is (get_or c.args.text.now c.args.at 0) (sym c.is_digit.ensures ∙ c.if-not-is_digit.false)).1)
 
 pub returns : goal.returns
 returns c =
-    let other = c.before.before.before in
     let read = c.read_digits.ensures in
     record {
-      says = read.says ∙ number_on _ _ other.if-text-at.false other.if-byte-eq-DIGIT_0.false (digit c.before);
+      says = read.says ∙ number_on _ _ c.if-text-at.false c.if-byte-eq-DIGIT_0.false (sym c.is_digit.ensures ∙ c.if-not-is_digit.false);
       within = read.within;
     }
