@@ -57,8 +57,8 @@ fn put_word(out: &mut [u8], at: usize, l: usize, word: u32) -> usize
 
 // The line of an entry.
 fn put_line(out: &mut [u8], at: usize, kind: usize, l: usize, s: Slot) -> usize
-    requires l_nonzero { (0 < l) × (l ≤ most_length) × (is_small (listed_for kind s) ≡ true) }
-    requires s_in_bounds { at + length (line_text (line_for kind l s)) ≤ length out.old }
+    requires fine { (0 < l) × (l ≤ most_length) × (is_small (listed_for kind s) ≡ true) }
+    requires room { at + length (line_text (line_for kind l s)) ≤ length out.old }
     ensures { Put (line_text (line_for kind l s)) at out.old result out.new }
 {
     let tab_at = put_word(out, at, l, s.word);

@@ -9,13 +9,12 @@ overflow_add-result c = omega (arith, c.digits_in.ensures, decimal_few c.args.p 
 
 pub overflow_add-result-2 : goal.overflow_add-result-2
 overflow_add-result-2 c =
-    let start = c.before.before in
     omega (
       arith,
       c.digits_in.ensures,
       c.digits_in-2.ensures,
-      decimal_few start.args.p (omega (arith, start.ranges.p.fits)),
-      decimal_few start.args.q (omega (arith, start.ranges.q.fits)),
+      decimal_few c.args.p (omega (arith, c.ranges.p.fits)),
+      decimal_few c.args.q (omega (arith, c.ranges.q.fits)),
     )
 
 pub returns : goal.returns

@@ -8,12 +8,12 @@ use borrow.Author.Rules.{rules}
 use Rattle.text_export.proofs.measuring.listed_length.Goals as goal
 
 pub returns-in-Bare : goal.returns-in-Bare
-returns-in-Bare c = c.digits_in.ensures ∙ sym (ap (λ y. length (listed_text y)) c.listed-1.given.1)
+returns-in-Bare c = c.digits_in.ensures ∙ sym (ap (λ y. length (listed_text y)) c.in-Bare.is)
 
 pub returns-in-Two : goal.returns-in-Two
 returns-in-Two c =
-    c.both_length.ensures ∙ both_long _ _ (ascii ",") refl ∙ sym (ap (λ y. length (listed_text y)) c.listed-in-Two-1.given.1)
+    c.both_length.ensures ∙ both_long _ _ (ascii ",") refl ∙ sym (ap (λ y. length (listed_text y)) c.in-Two.is)
 
 pub returns-in-Run : goal.returns-in-Run
 returns-in-Run c =
-    c.both_length-in-Run.ensures ∙ both_long _ _ (ascii "-") refl ∙ sym (ap (λ y. length (listed_text y)) c.listed-in-Run-1.given.1)
+    c.both_length-in-Run.ensures ∙ both_long _ _ (ascii "-") refl ∙ sym (ap (λ y. length (listed_text y)) c.in-Run.is)
