@@ -1,5 +1,7 @@
 // FASTA records: `writing` makes one of a name and letters, `reading` has both back. Neither operation has a `requires`: each tests what it is
 // given.
+#![tactic(auto)]
+
 pub mod reading;
 pub mod writing;
 

@@ -1,8 +1,5 @@
 -- `are_letters` meets its contract: whether the bytes so far are letters (`Seen`). Assumes nothing.
-use borrow.Author.Rules.{rules}
-use Prim.Native.Nat.{◌-◌}
-use Rattle.base_letters.specs.Letters.{is_letter}
-use Rattle.text_fasta.proofs.LeadingLaws.{Seen, seen_none, seen_turn, seen_all}
+use Rattle.text_fasta.proofs.LeadingLaws.{seen_none, seen_turn, seen_all}
 use Rattle.text_fasta.proofs.are_letters.Goals as goal
 
 pub loop-i-init : goal.loop-i-init

@@ -1,8 +1,7 @@
 -- `are_letters` meets its contract: whether the bytes so far are letters (`Seen`). Assumes nothing.
-use borrow.Author.Rules.{rules}
 use Prim.Native.Nat.{◌-◌}
 use Rattle.base_letters.specs.Letters.{is_letter}
-use Rattle.text_fasta.proofs.LeadingLaws.{Seen, seen_none, seen_turn, seen_all}
+use Rattle.text_fasta.proofs.LeadingLaws.{Seen}
 use Rattle.text_fasta.proofs.are_letters.Given as goal
 
 abbrev pub invariant-loop-i : goal.invariant-loop-i

@@ -1,6 +1,5 @@
 -- `is_name` meets its contract. Assumes nothing.
 use Rattle.text_fasta.proofs.TestLaws.{name_none, name_long, name_by_bytes}
-use borrow.Author.Rules.{rules}
 use Rattle.text_fasta.proofs.is_name.Goals as goal
 
 pub returns-then-n-eq0 : goal.returns-then-n-eq0

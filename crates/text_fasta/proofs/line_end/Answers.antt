@@ -1,6 +1,5 @@
 -- `line_end` meets its contract. Assumes nothing.
 use Rattle.text_fasta.proofs.EndLaws.{ends_last, ends_full}
-use borrow.Author.Rules.{rules}
 use Rattle.text_fasta.proofs.line_end.Goals as goal
 
 pub returns-then-n-at-lt-LINE_LETTERS : goal.returns-then-n-at-lt-LINE_LETTERS

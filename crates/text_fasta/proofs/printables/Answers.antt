@@ -1,10 +1,6 @@
 -- `printables` meets its contract: the bytes so far are printable (`Led`). Assumes nothing.
 use mathlib.Core.Path.{sym, ◌∙◌}
-use borrow.Author.Rules.{rules}
-use Prim.Native.Nat.{◌-◌}
-use Rattle.base_lists.proofs.TestLaws.{failed, passed}
-use Rattle.text_fasta.specs.Record.{is_printable}
-use Rattle.text_fasta.proofs.LeadingLaws.{Led, led_none, led_turn, led_stop, led_all}
+use Rattle.text_fasta.proofs.LeadingLaws.{led_none, led_turn, led_stop, led_all}
 use Rattle.text_fasta.proofs.printables.Goals as goal
 
 pub loop-i-init : goal.loop-i-init

@@ -1,9 +1,6 @@
 -- `are_line_letters` meets its contract: whether the bytes so far are letters (`Seen`). Assumes nothing.
-use borrow.Author.Rules.{rules}
-use Prim.Native.Nat.{◌-◌}
 use native.Mathlib.Omega.{arith}
-use Rattle.base_letters.specs.Letters.{is_letter}
-use Rattle.text_fasta.proofs.LeadingLaws.{Seen, seen_none, seen_part, seen_rest}
+use Rattle.text_fasta.proofs.LeadingLaws.{seen_none, seen_part, seen_rest}
 use Rattle.text_fasta.proofs.reading.are_line_letters.Goals as goal
 
 pub loop-at-init : goal.loop-at-init

@@ -1,7 +1,6 @@
 -- `fault_in` meets its contract. Assumes nothing.
 use Rattle.base_answers.proofs.Laws.{told_holds, told_refused}
 use Rattle.text_fasta.proofs.AnswerLaws.{letters_fault, lines_fault}
-use borrow.Author.Rules.{rules}
 use Rattle.text_fasta.proofs.reading.fault_in.Goals as goal
 
 pub returns-in-Refused : goal.returns-in-Refused

@@ -1,12 +1,9 @@
 -- `is_body` meets its contract: the lines so far are as they should be (`Looked`). Assumes nothing.
 use mathlib.Core.Path.{sym, ◌∙◌}
-use borrow.Author.Rules.{rules}
-use Prim.Native.Nat.{◌-◌}
 use native.Mathlib.Omega.{arith}
-use Rattle.base_lists.proofs.TestLaws.{failed, passed}
 use Rattle.text_fasta.proofs.EndLaws.{end_within, end_after}
 use Rattle.text_fasta.proofs.LinedLaws.{nothing_body}
-use Rattle.text_fasta.proofs.LoopLaws.{Looked, looked_none, looked_turn, looked_stop, looked_all}
+use Rattle.text_fasta.proofs.LoopLaws.{looked_none, looked_turn, looked_stop, looked_all}
 use Rattle.text_fasta.proofs.reading.is_body.Goals as goal
 
 pub returns-then-n-eq0 : goal.returns-then-n-eq0

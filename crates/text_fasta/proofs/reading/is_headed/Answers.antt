@@ -1,7 +1,6 @@
 -- `is_headed` meets its contract. Assumes nothing.
 use native.Mathlib.Omega.{arith}
 use Rattle.text_fasta.proofs.HeadLaws.{within_reach, no_end, no_mark, headed_by_name}
-use borrow.Author.Rules.{rules}
 use Rattle.text_fasta.proofs.reading.is_headed.Goals as goal
 
 pub overflow_add-end : goal.overflow_add-end

@@ -1,6 +1,5 @@
 -- `is_line` meets its contract. Assumes nothing.
 use mathlib.Core.Path.{refl}
-use borrow.Author.Rules.{rules}
 use Rattle.text_fasta.proofs.reading.is_line.Goals as goal
 
 pub returns : goal.returns

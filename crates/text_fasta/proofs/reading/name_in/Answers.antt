@@ -4,9 +4,7 @@ use mathlib.Core.List.{[]}
 use Rattle.base_answers.specs.Numbers.{Name}
 use Rattle.base_answers.specs.Answer.{given}
 use Rattle.base_answers.proofs.Laws.{first_fail, first_last}
-use Rattle.base_lists.proofs.TestLaws.{failed, passed}
 use Rattle.text_fasta.proofs.HeadLaws.{name_found}
-use borrow.Author.Rules.{rules}
 use Rattle.text_fasta.proofs.reading.name_in.Goals as goal
 
 pub is_headed-requires : goal.is_headed-requires

@@ -1,7 +1,6 @@
 -- `name_length` meets its contract: no more bytes are looked at than a name may have, and one. Assumes nothing.
 use mathlib.Core.Path.{◌∙◌}
 use Rattle.text_fasta.proofs.HeadLaws.{nothing_leads, all_in_reach}
-use borrow.Author.Rules.{rules}
 use Rattle.text_fasta.proofs.reading.name_length.Goals as goal
 
 pub returns-then-n-eq0 : goal.returns-then-n-eq0

@@ -1,8 +1,6 @@
 -- `put_letters` meets its contract: the letters of the lines so far are put (`Parting`). Assumes nothing.
-use borrow.Author.Rules.{rules}
-use Prim.Native.Nat.{◌-◌}
 use native.Mathlib.Omega.{arith}
-use Rattle.text_fasta.proofs.LoopLaws.{Parting, parting_none, parting_length, parting_room, parting_turn, parting_all}
+use Rattle.text_fasta.proofs.LoopLaws.{parting_none, parting_length, parting_room, parting_turn, parting_all}
 use Rattle.text_fasta.proofs.EndLaws.{end_within, end_after}
 use Rattle.text_fasta.proofs.reading.put_letters.Goals as goal
 

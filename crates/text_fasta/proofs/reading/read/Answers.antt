@@ -2,7 +2,6 @@
 use mathlib.Core.Path.{sym, ap, ◌∙◌}
 use Rattle.text_fasta.specs.Inner.{says_named}
 use Rattle.text_fasta.proofs.AnswerLaws.{not_headed, name_held}
-use borrow.Author.Rules.{rules}
 use Rattle.text_fasta.proofs.reading.read.Goals as goal
 
 pub read_named-requires : goal.read_named-requires

@@ -5,7 +5,7 @@ use mathlib.Core.Bool.{true}
 use mathlib.Core.List.{List}
 use Prim.Native.Nat.{ℕ, ◌+◌, ◌-◌, ◌/◌, ◌≤◌}
 use native.Mathlib.Omega.{arith}
-use lib.ListN.{length, drop}
+use lib.ListN.{length}
 use Rattle.base_text.proofs.PuttingLaws.{put_as}
 use Rattle.text_fasta.specs.Reading.{is_headed, name_length, body_in, letters_in}
 use Rattle.text_fasta.specs.Record.{line_letters}
@@ -13,7 +13,6 @@ use Rattle.text_fasta.specs.Inner.{is_body}
 use Rattle.text_fasta.proofs.HeadLaws.{headed_room, name_part, body_part}
 use Rattle.text_fasta.proofs.LinedLaws.{is_body_lem, letters_among}
 use Rattle.text_fasta.proofs.AnswerLaws.{no_room_name, no_room_letters, record_read}
-use borrow.Author.Rules.{rules}
 use Rattle.text_fasta.proofs.reading.read_lines.Goals as goal
 
 -- the record goes on after the name's line

@@ -3,7 +3,6 @@ use mathlib.Core.Path.{sym, ◌∙◌}
 use native.Mathlib.Omega.{arith}
 use Rattle.text_fasta.proofs.HeadLaws.{headed_room, body_part}
 use Rattle.text_fasta.proofs.AnswerLaws.{no_body}
-use borrow.Author.Rules.{rules}
 use Rattle.text_fasta.proofs.reading.read_named.Goals as goal
 
 pub overflow_add-at : goal.overflow_add-at

@@ -1,8 +1,5 @@
 -- `unbroken` meets its contract: the bytes so far are no newlines (`Led`). Assumes nothing.
-use borrow.Author.Rules.{rules}
-use Prim.Native.Nat.{◌-◌}
-use Rattle.text_fasta.specs.Reading.{no_break}
-use Rattle.text_fasta.proofs.LeadingLaws.{Led, led_none, led_turn, led_stop, led_all}
+use Rattle.text_fasta.proofs.LeadingLaws.{led_none, led_turn, led_stop, led_all}
 use Rattle.text_fasta.proofs.BodyLaws.{is_break, no_break_lem}
 use Rattle.text_fasta.proofs.reading.unbroken.Goals as goal
 

@@ -1,6 +1,5 @@
 -- `fits` meets its contract: the room is taken from step by step, so that no sum wraps. Assumes nothing.
 use Rattle.text_fasta.proofs.TestLaws.{fits_head, fits_lines, fits_letters}
-use borrow.Author.Rules.{rules}
 use Rattle.text_fasta.proofs.writing.fits.Goals as goal
 
 pub returns-then-room-k : goal.returns-then-room-k

@@ -1,10 +1,6 @@
 -- `letters_before` meets its contract: the bytes so far are letters (`Led`). Assumes nothing.
 use mathlib.Core.Path.{sym, ◌∙◌}
-use borrow.Author.Rules.{rules}
-use Prim.Native.Nat.{◌-◌}
-use Rattle.base_lists.proofs.TestLaws.{failed, passed}
-use Rattle.base_letters.specs.Letters.{is_letter}
-use Rattle.text_fasta.proofs.LeadingLaws.{Led, led_none, led_turn, led_stop, led_all}
+use Rattle.text_fasta.proofs.LeadingLaws.{led_none, led_turn, led_stop, led_all}
 use Rattle.text_fasta.proofs.writing.letters_before.Goals as goal
 
 pub loop-i-init : goal.loop-i-init

@@ -1,9 +1,7 @@
 -- `letters_before` meets its contract: the bytes so far are letters (`Led`). Assumes nothing.
-use borrow.Author.Rules.{rules}
 use Prim.Native.Nat.{◌-◌}
-use Rattle.base_lists.proofs.TestLaws.{failed, passed}
 use Rattle.base_letters.specs.Letters.{is_letter}
-use Rattle.text_fasta.proofs.LeadingLaws.{Led, led_none, led_turn, led_stop, led_all}
+use Rattle.text_fasta.proofs.LeadingLaws.{Led}
 use Rattle.text_fasta.proofs.writing.letters_before.Given as goal
 
 abbrev pub invariant-loop-i : goal.invariant-loop-i

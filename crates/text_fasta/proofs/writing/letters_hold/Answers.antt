@@ -2,7 +2,6 @@
 use mathlib.Core.Path.{sym, ◌∙◌}
 use Rattle.base_answers.specs.Answer.{sound}
 use Rattle.text_fasta.proofs.TestLaws.{nothing_refused, others_refused, all_given}
-use borrow.Author.Rules.{rules}
 use Rattle.text_fasta.proofs.writing.letters_hold.Goals as goal
 
 pub returns-then-letters-eq0 : goal.returns-then-letters-eq0

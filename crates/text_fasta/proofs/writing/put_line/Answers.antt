@@ -2,7 +2,6 @@
 use native.Mathlib.Omega.{arith}
 use Rattle.text_fasta.specs.Record.{newline}
 use Rattle.base_text.proofs.PuttingLaws.{length_put, put_then, put_byte}
-use borrow.Author.Rules.{rules}
 use Rattle.text_fasta.proofs.writing.put_line.Goals as goal
 
 pub returns : goal.returns

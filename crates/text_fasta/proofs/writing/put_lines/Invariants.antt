@@ -1,9 +1,6 @@
 -- `put_lines` meets its contract: the letters so far are put in lines (`Lining`). Assumes nothing.
-use borrow.Author.Rules.{rules}
 use Prim.Native.Nat.{◌-◌}
-use native.Mathlib.Omega.{arith}
-use Rattle.text_fasta.proofs.LoopLaws.{Lining, lining_none, lining_length, lining_room, lining_turn, lining_all}
-use Rattle.text_fasta.proofs.EndLaws.{end_within, end_after, end_more}
+use Rattle.text_fasta.proofs.LoopLaws.{Lining}
 use Rattle.text_fasta.proofs.writing.put_lines.Given as goal
 
 abbrev pub invariant-loop-i : goal.invariant-loop-i

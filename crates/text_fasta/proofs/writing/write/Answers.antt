@@ -2,9 +2,7 @@
 use mathlib.Core.Path.{sym, ◌∙◌}
 use Rattle.base_answers.specs.Answer.{sound}
 use Rattle.base_answers.proofs.Laws.{first_passed, told_holds, told_refused}
-use Rattle.base_lists.proofs.TestLaws.{failed, passed}
 use Rattle.text_fasta.proofs.AnswerLaws.{no_name, no_letters}
-use borrow.Author.Rules.{rules}
 use Rattle.text_fasta.proofs.writing.write.Goals as goal
 
 pub returns-then-not-is_name : goal.returns-then-not-is_name

@@ -1,9 +1,7 @@
 -- `write_named` meets its contract. Assumes nothing.
 use mathlib.Core.Path.{sym, ◌∙◌}
-use Rattle.base_lists.proofs.TestLaws.{failed, passed}
 use Rattle.text_fasta.proofs.TestLaws.{name_holds, letters_held}
 use Rattle.text_fasta.proofs.AnswerLaws.{no_room, room_for, record_written}
-use borrow.Author.Rules.{rules}
 use Rattle.text_fasta.proofs.writing.write_named.Goals as goal
 
 pub fits-requires : goal.fits-requires
