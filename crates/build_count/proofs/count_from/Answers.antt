@@ -6,23 +6,16 @@ use Rattle.build_count.specs.ByKind.{on_pairs, on_spans}
 use borrow.Author.Rules.{rules}
 use Rattle.build_count.proofs.count_from.Goals as goal
 
--- the lists are not those of a span card
-abbrev not_span : goal.After-found-1 → goal.Else-f-eq-SPAN
-not_span c = c.before
-
-abbrev start : goal.After-found-1 → goal.Start
-start c = let lists = (not_span c).before.before in lists.before.before.before
-
 pub returns-then-f-eq-SPAN : goal.returns-then-f-eq-SPAN
-returns-then-f-eq-SPAN c = on_spans c.if-f-eq-SPAN.true refl
+returns-then-f-eq-SPAN c =
+    on_spans c.if-f-eq-SPAN.true refl
 
 pub pair-requires : goal.pair-requires
 pair-requires c =
-    let hold = lists_of_kind (start c).requires (hold_kind (start c).requires.hold (not_span c).if-f-eq-SPAN.false) in record { pair_lists = hold; words_in_bounds = few_entries hold }
+    let hold = lists_of_kind c.requires (hold_kind c.requires.hold c.if-f-eq-SPAN.false) in record { pair_lists = hold; words_in_bounds = few_entries hold }
 
 pub returns : goal.returns
 returns c =
-    let called = c.before.before in
-    let found = called.pair in
+        let found = c.pair in
     on_pairs (power_by found.result.found-1 found.result.choices)
-    (hold_kind (start called.before).requires.hold (not_span called.before).if-f-eq-SPAN.false) found.ensures.many c.number_by.ensures
+    (hold_kind c.requires.hold c.if-f-eq-SPAN.false) found.ensures.many c.number_by.ensures

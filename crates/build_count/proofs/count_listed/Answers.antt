@@ -5,10 +5,13 @@ use borrow.Author.Rules.{rules}
 use Rattle.build_count.proofs.count_listed.Goals as goal
 
 pub slice_bounds-count_from-end : goal.slice_bounds-count_from-end
-slice_bounds-count_from-end c = simp length-take (omega arith)
+slice_bounds-count_from-end c =
+    simp length-take (omega arith)
 
 pub slice_bounds-count_from-end-2 : goal.slice_bounds-count_from-end-2
-slice_bounds-count_from-end-2 c = simp length-take (omega arith)
+slice_bounds-count_from-end-2 c =
+    simp length-take (omega arith)
 
 pub slice_bounds-count_from-end-3 : goal.slice_bounds-count_from-end-3
-slice_bounds-count_from-end-3 c = simp length-take (omega arith)
+slice_bounds-count_from-end-3 c =
+    simp length-take (omega arith)

@@ -4,4 +4,5 @@ use Rattle.build_narrow.proofs.TestLaws.{narrow_by}
 use Rattle.build_narrow.proofs.is_narrow.Goals as goal
 
 pub returns : goal.returns
-returns c = narrow_by c.args.s
+returns c =
+    narrow_by c.args.s

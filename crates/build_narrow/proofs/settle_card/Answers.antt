@@ -5,33 +5,20 @@ use Rattle.build_narrow.proofs.CardLaws.{listed_settles, card_refused}
 use borrow.Author.Rules.{rules}
 use Rattle.build_narrow.proofs.settle_card.Goals as goal
 
--- the card was admitted
-abbrev listed : goal.After-twos-2-1 → goal.After-admit_into
-listed c = c.before.before.before
-
--- and has this format
-abbrev of-card : goal.After-twos-in-Card-1 → goal.In-Card-2
-of-card c = let lent = c.before in lent.before.before.before
-
 pub settle_listed-requires : goal.settle_listed-requires
 settle_listed-requires c =
-    let known = of-card c.before in
-    let lists = known.before.before in
-    let did = (listed lists).admit_into.ensures in
-    let is = known.f-1.given.1 in
+            let did = c.admit_into.ensures in
+    let is = c.f-1.given.1 in
     let few = listed_few did is in record { m_in_bounds = (
-        omega (arith, few, lists.words-2-1.given),
-        omega (arith, few, lists.ones-2-1.given),
-        omega (arith, few, lists.twos-2-1.given),
+        omega (arith, few, c.words-2-1.given),
+        omega (arith, few, c.ones-2-1.given),
+        omega (arith, few, c.twos-2-1.given),
       ); lists_hold = listed_hold did is }
 
 pub returns-in-Card : goal.returns-in-Card
 returns-in-Card c =
-    let called = c.before.before in
-    let known = of-card called.before.before in
-    listed_settles (listed known.before.before).admit_into.ensures known.f-1.given.1 called.settle_listed.ensures
+    listed_settles c.admit_into.ensures c.f-1.given.1 c.settle_listed.ensures
 
 pub returns-in-Refused : goal.returns-in-Refused
 returns-in-Refused c =
-    let known = c.before in
-    card_refused (listed known.before.before).admit_into.ensures known.r-1.given.1 (omega arith) (omega arith) (omega arith)
+    card_refused c.admit_into.ensures c.r-1.given.1 (omega arith) (omega arith) (omega arith)

@@ -6,20 +6,18 @@ use Rattle.card_entries.proofs.HoldLaws.{lists_of_kind}
 use borrow.Author.Rules.{rules}
 use Rattle.build_narrow.proofs.settle_listed.Goals as goal
 
-abbrev lent : goal.After-settle-from-arg4 → goal.After-slice_known-1
-lent c = let parts = c.before in parts.before.before.before
-
-abbrev begun : goal.After-settle-from-arg4 → goal.Start
-begun c = let lists = (lent c).before in lists.before.before.before
-
 pub slice_bounds-settle_from-end : goal.slice_bounds-settle_from-end
-slice_bounds-settle_from-end c = simp length-take (omega arith)
+slice_bounds-settle_from-end c =
+    simp length-take (omega arith)
 
 pub slice_bounds-settle_from-end-2 : goal.slice_bounds-settle_from-end-2
-slice_bounds-settle_from-end-2 c = simp length-take (omega arith)
+slice_bounds-settle_from-end-2 c =
+    simp length-take (omega arith)
 
 pub slice_bounds-settle_from-end-3 : goal.slice_bounds-settle_from-end-3
-slice_bounds-settle_from-end-3 c = simp length-take (omega arith)
+slice_bounds-settle_from-end-3 c =
+    simp length-take (omega arith)
 
 pub settle_from-requires : goal.settle_from-requires
-settle_from-requires c = lists_of_kind (begun c).requires.1 refl
+settle_from-requires c =
+    lists_of_kind c.requires.lists_hold refl

@@ -8,9 +8,8 @@ use Rattle.build_narrow.proofs.settle_lists.Goals as goal
 
 pub settle_from-requires : goal.settle_from-requires
 settle_from-requires c =
-    let told = c.before in lists_held (told_holds told.lists_hold.ensures told.enum_told-1.given.1)
+    lists_held (told_holds c.lists_hold.ensures c.enum_told-1.given.1)
 
 pub returns-in-Refused : goal.returns-in-Refused
 returns-in-Refused c =
-    let known = c.before in
-    building_refused (lists_refuse _ _ _ _ _ _ _ (told_refused known.lists_hold.ensures known.r-1.given.1))
+    building_refused (lists_refuse _ _ _ _ _ _ _ (told_refused c.lists_hold.ensures c.r-1.given.1))

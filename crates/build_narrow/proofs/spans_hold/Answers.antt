@@ -5,7 +5,9 @@ use borrow.Author.Rules.{rules}
 use Rattle.build_narrow.proofs.spans_hold.Goals as goal
 
 pub returns-then-kind-eq-SPAN : goal.returns-then-kind-eq-SPAN
-returns-then-kind-eq-SPAN c = c.widths_hold.ensures ∙ span_go_on _ _ c.if-kind-eq-SPAN.true
+returns-then-kind-eq-SPAN c =
+    c.widths_hold.ensures ∙ span_go_on _ _ c.if-kind-eq-SPAN.true
 
 pub returns : goal.returns
-returns c = span_wrong _ _ c.if-kind-eq-SPAN.false
+returns c =
+    span_wrong _ _ c.if-kind-eq-SPAN.false

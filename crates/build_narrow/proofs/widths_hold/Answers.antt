@@ -18,23 +18,6 @@ use Rattle.build_narrow.specs.Settling.{width_tests}
 use Rattle.build_narrow.proofs.TestLaws.{width_test, widths_in_turn}
 use Rattle.build_narrow.proofs.widths_hold.Goals as goal
 
--- once the entry has been tested: where its turn began, and what the test said of it
-module _ (c : goal.After-is_narrow) where
-  abbrev turn : goal.In-loop-e
-  turn = c.before.before
-
-  abbrev at-loop : goal.At-loop-e
-  at-loop = turn.before
-
-  abbrev start : goal.Start
-  start = let lists = at-loop.before in lists.before.before.before
-
-  abbrev slot-at : ℕ → Slot
-  slot-at = slot_from start.args.words.now start.args.ones.now start.args.twos.now
-
-  said : c.is_narrow.result ≡ is_narrow (slot-at at-loop.loop-e.e)
-  said = rw c.slot_from.ensures at c.is_narrow.ensures
-
 pub loop-e-init : goal.loop-e-init
 loop-e-init c =
     let args = c.args in
@@ -44,15 +27,22 @@ loop-e-init c =
 
 pub returns-then-not-is_narrow : goal.returns-then-not-is_narrow
 returns-then-not-is_narrow c =
-    let asked = c.before in
-    let wrong = first_fail _ Wider (at-loop asked).loop-e.e [] sound (failed (said asked) c.if-not-is_narrow.true) in
-    sym (turn_refused (width_test (slot-at asked)) _ _ sound (turn asked).loop-e-test.true wrong) ∙ (at-loop asked).loop-e.invariant
+    let slot-at : ℕ → Slot =
+      slot_from c.args.words.now c.args.ones.now c.args.twos.now in
+    let said : c.is_narrow.result ≡ is_narrow (slot-at c.loop-e.e) =
+      rw c.slot_from.ensures at c.is_narrow.ensures in
+        let wrong = first_fail _ Wider c.loop-e.e [] sound (failed said c.if-not-is_narrow.true) in
+    sym (turn_refused (width_test slot-at) _ _ sound c.loop-e-test.true wrong) ∙ c.loop-e.invariant
 
 pub loop-e-preserved : goal.loop-e-preserved
 loop-e-preserved c =
-    let asked = c.before in
-    let holds = first_last _ Wider (at-loop asked).loop-e.e sound (passed (said asked) c.if-not-is_narrow.false) in
-    turn_holds (width_test (slot-at asked)) _ _ sound (turn asked).loop-e-test.true holds ∙ (at-loop asked).loop-e.invariant
+    let slot-at : ℕ → Slot =
+      slot_from c.args.words.now c.args.ones.now c.args.twos.now in
+    let said : c.is_narrow.result ≡ is_narrow (slot-at c.loop-e.e) =
+      rw c.slot_from.ensures at c.is_narrow.ensures in
+        let holds = first_last _ Wider c.loop-e.e sound (passed said c.if-not-is_narrow.false) in
+    turn_holds (width_test slot-at) _ _ sound c.loop-e-test.true holds ∙ c.loop-e.invariant
 
 pub returns : goal.returns
-returns c = sym (turns_end _ _ _ sound c.loop-e-test.false) ∙ c.loop-e.invariant
+returns c =
+    sym (turns_end _ _ _ sound c.loop-e-test.false) ∙ c.loop-e.invariant

@@ -6,44 +6,42 @@ use Rattle.span_narrow.specs.Settled.{Uncrowded}
 use Rattle.span_narrow.proofs.SettleLaws.{crowding_found, uncrowded_none, uncrowded_more, crowding_none}
 use Rattle.span_narrow.proofs.crowded.Goals as goal
 
--- ---- places, from the last to the start
-
-abbrev start : goal.In-loop-i → goal.Start
-start c = c.before.before.before
-
-abbrev turn : goal.After-start_of-in-loop-i → goal.In-loop-i
-turn c = c.before.before
-
 pub loop-i-init : goal.loop-i-init
-loop-i-init c = uncrowded_none
+loop-i-init c =
+    uncrowded_none
 
 pub start_of-requires : goal.start_of-requires
-start_of-requires c = omega (arith, (start c).requires, c.loop-i-test.true)
+start_of-requires c =
+    omega (arith, c.requires, c.loop-i-test.true)
 
 pub overflow_add-start_of : goal.overflow_add-start_of
-overflow_add-start_of c = omega (arith, c.start_of.ensures, c.shared_slice_known-1.given c.loop-i.i)
+overflow_add-start_of c =
+    omega (arith, c.start_of.ensures, c.shared_slice_known-1.given c.loop-i.i)
 
 pub overflow_add-i : goal.overflow_add-i
-overflow_add-i c = omega (arith, (start c.before).requires, c.loop-i-test.true, (start c.before).well_formed)
+overflow_add-i c =
+    omega (arith, c.requires, c.loop-i-test.true, c.well_formed)
 
 pub start_of-requires-in-loop-i : goal.start_of-requires-in-loop-i
-start_of-requires-in-loop-i c = omega (arith, (start c.before).requires, c.loop-i-test.true)
+start_of-requires-in-loop-i c =
+    omega (arith, c.requires, c.loop-i-test.true)
 
 pub returns-then-start_of : goal.returns-then-start_of
 returns-then-start_of c =
-    let at = c.before in
-    crowding_found (turn at).loop-i-test.true at.start_of.ensures at.start_of-in-loop-i.ensures (omega (arith, c.if-start_of.true))
+    crowding_found c.loop-i-test.true c.start_of.ensures c.start_of-in-loop-i.ensures (omega (arith, c.if-start_of.true))
 
 pub overflow_add-i-in-loop-i : goal.overflow_add-i-in-loop-i
-overflow_add-i-in-loop-i c = let at = turn c.before in omega (arith, (start at).requires, at.loop-i-test.true, (start at).well_formed)
+overflow_add-i-in-loop-i c =
+    omega (arith, c.requires, c.loop-i-test.true, c.well_formed)
 
 pub loop-i-smaller : goal.loop-i-smaller
-loop-i-smaller c = omega (arith, (turn c.before).loop-i-test.true)
+loop-i-smaller c =
+    omega (arith, c.loop-i-test.true)
 
 pub loop-i-preserved : goal.loop-i-preserved
 loop-i-preserved c =
-    let at = c.before in
-    uncrowded_more (turn at).loop-i.invariant at.start_of.ensures at.start_of-in-loop-i.ensures (omega (arith, c.if-start_of.false))
+    uncrowded_more c.loop-i.invariant c.start_of.ensures c.start_of-in-loop-i.ensures (omega (arith, c.if-start_of.false))
 
 pub returns : goal.returns
-returns c = crowding_none c.loop-i.invariant c.loop-i-test.false
+returns c =
+    crowding_none c.loop-i.invariant c.loop-i-test.false

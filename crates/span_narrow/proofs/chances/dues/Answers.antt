@@ -9,37 +9,27 @@ use Rattle.base_lists.proofs.FillingLaws.{get_d_in}
 use Rattle.span_narrow.proofs.StateLaws.{DueSoFar, due_none, due_turn, due_all}
 use Rattle.span_narrow.proofs.chances.dues.Goals as goal
 
--- ---- places, from the last to the start
-
-abbrev lists : goal.In-loop-k → goal.After-shared_slice_known-3-1
-lists c = c.before.before
-
-abbrev start : goal.In-loop-k → goal.Start
-start c = (lists c).before.before.before
-
-abbrev turn : goal.After-is_due → goal.In-loop-k
-turn c = c.before.before
-
--- the entry of slot k is one of the card's
-low : (c : goal.In-loop-k) → get_or (start c).args.list.now c.loop-k.k 0 < length (start c).args.twos.now
-low c = (start c).requires.0.each _ (get_d_in _ c.loop-k.k c.loop-k-test.true)
-
 pub loop-k-init : goal.loop-k-init
-loop-k-init c = due_none _ _ _ _
+loop-k-init c =
+    due_none _ _ _ _
 
 pub is_due-requires : goal.is_due-requires
-is_due-requires c = omega (arith, low c.before, c.at16.ensures, (start c.before).requires.1)
+is_due-requires c =
+    let low : get_or c.args.list.now c.loop-k.k 0 < length c.args.twos.now =
+      c.requires.below.each _ (get_d_in _ c.loop-k.k c.loop-k-test.true) in
+    omega (arith, low, c.at16.ensures, c.requires.marks_len)
 
 pub overflow_add-n : goal.overflow_add-n
-overflow_add-n c = let at = turn c.before in omega (arith, at.loop-k.invariant.few, at.loop-k-test.true, (start at).well_formed)
+overflow_add-n c =
+    omega (arith, c.loop-k.invariant.few, c.loop-k-test.true, c.well_formed)
 
 pub loop-k-preserved : goal.loop-k-preserved
 loop-k-preserved c =
-    let at = turn c.before in
-    let is = rw c.at16.ensures at (sym c.is_due.ensures) in
-    ⊎_elim (λ w. rw w.1 (due_turn _ _ _ _ at.loop-k.invariant at.loop-k-test.true (is ∙ w.0.true) refl))
-    (λ w. rw w.1 (due_turn _ _ _ _ at.loop-k.invariant at.loop-k-test.true (is ∙ w.0.left) (omega arith)))
+        let is = rw c.at16.ensures at (sym c.is_due.ensures) in
+    ⊎_elim (λ w. rw w.1 (due_turn _ _ _ _ c.loop-k.invariant c.loop-k-test.true (is ∙ w.0.true) refl))
+    (λ w. rw w.1 (due_turn _ _ _ _ c.loop-k.invariant c.loop-k-test.true (is ∙ w.0.left) (omega arith)))
     c.if-is_due.branch
 
 pub returns : goal.returns
-returns c = due_all _ _ _ _ c.loop-k.invariant c.loop-k-test.false
+returns c =
+    due_all _ _ _ _ c.loop-k.invariant c.loop-k-test.false

@@ -9,41 +9,33 @@ use Rattle.base_lists.proofs.FillingLaws.{get_d_in}
 use Rattle.span_narrow.proofs.ChooseLaws.{LookedFrom, looked_none, looked_skip, looked_more, looked_all}
 use Rattle.span_narrow.proofs.digits.choose.Goals as goal
 
--- ---- places, from the last to the start
-
-abbrev head : goal.In-loop-k → goal.At-loop-k
-head c = c.before
-
-abbrev start : goal.In-loop-k → goal.Start
-start c = (head c).before.before.before
-
-abbrev turn : goal.After-is_picked → goal.In-loop-k
-turn c = c.before.before.before
-
--- the entry of the slot before k is one of the card's
-low : (c : goal.In-loop-k)
-    → get_or (start c).args.list.now (c.loop-k.k - 1) 0 < length (start c).args.words.now
-low c = (start c).requires.each _ (get_d_in _ (c.loop-k.k - 1) (omega (arith, c.loop-k.invariant.within, c.loop-k-test.true)))
-
 pub loop-k-init : goal.loop-k-init
-loop-k-init c = looked_none _ _ _ _ _
+loop-k-init c =
+    looked_none _ _ _ _ _
 
 pub at16-e-requires : goal.at16-e-requires
-at16-e-requires c = omega (arith, c.loop-k.invariant.within, c.loop-k-test.true)
+at16-e-requires c =
+    omega (arith, c.loop-k.invariant.within, c.loop-k-test.true)
 
 pub offset_bounds-words-e : goal.offset_bounds-words-e
-offset_bounds-words-e c = omega (arith, low c.before, c.at16-e.ensures, (start c.before).well_formed)
+offset_bounds-words-e c =
+    let low : get_or c.args.list.now (c.loop-k.k - 1) 0 < length c.args.words.now =
+      c.requires.each _ (get_d_in _ (c.loop-k.k - 1) (omega (arith, c.loop-k.invariant.within, c.loop-k-test.true))) in
+    omega (arith, low, c.at16-e.ensures, c.well_formed)
 
 pub bounds-words-e : goal.bounds-words-e
-bounds-words-e c = omega (arith, low c.before.before, c.at16-e.ensures)
+bounds-words-e c =
+    let low : get_or c.args.list.now (c.loop-k.k - 1) 0 < length c.args.words.now =
+      c.requires.each _ (get_d_in _ (c.loop-k.k - 1) (omega (arith, c.loop-k.invariant.within, c.loop-k-test.true))) in
+    omega (arith, low, c.at16-e.ensures)
 
 pub loop-k-preserved : goal.loop-k-preserved
 loop-k-preserved c =
-    let at = turn c.before in
-    let is = rw c.at16-e.ensures at (sym c.is_picked.ensures) in
-    ⊎_elim (λ w. rw w.1 (rw w.2 (looked_more _ _ _ _ _ at.loop-k.invariant at.loop-k-test.true (is ∙ w.0.true))))
-    (λ w. rw w.1 (rw w.2 (looked_skip _ _ _ _ _ at.loop-k.invariant at.loop-k-test.true (is ∙ w.0.left))))
+        let is = rw c.at16-e.ensures at (sym c.is_picked.ensures) in
+    ⊎_elim (λ w. rw w.1 (rw w.2 (looked_more _ _ _ _ _ c.loop-k.invariant c.loop-k-test.true (is ∙ w.0.true))))
+    (λ w. rw w.1 (rw w.2 (looked_skip _ _ _ _ _ c.loop-k.invariant c.loop-k-test.true (is ∙ w.0.left))))
     c.if-is_picked.branch
 
 pub returns : goal.returns
-returns c = looked_all _ _ _ _ _ c.loop-k.invariant (omega (arith, c.loop-k-test.false))
+returns c =
+    looked_all _ _ _ _ _ c.loop-k.invariant (omega (arith, c.loop-k-test.false))

@@ -4,7 +4,9 @@ use borrow.Author.Rules.{rules}
 use Rattle.span_narrow.proofs.digits.is_picked.Goals as goal
 
 pub returns-then-c-eq1 : goal.returns-then-c-eq1
-returns-then-c-eq1 c = rw (eq-eqb _ _ c.if-c-eq1.true) c.agrees.ensures
+returns-then-c-eq1 c =
+    rw (eq-eqb _ _ c.if-c-eq1.true) c.agrees.ensures
 
 pub returns : goal.returns
-returns c = rw (ne_eqb _ _ c.if-c-eq1.false)
+returns c =
+    rw (ne_eqb _ _ c.if-c-eq1.false)

@@ -7,33 +7,28 @@ use Rattle.base_lists.proofs.FillingLaws.{get_d_in}
 use Rattle.span_narrow.proofs.MarkLaws.{Marking, marking_none, marking_turn, marking_all}
 use Rattle.span_narrow.proofs.digits.mark_list.Goals as goal
 
--- ---- places, from the last to the start
-
-abbrev head : goal.In-loop-k → goal.At-loop-k
-head c = c.before
-
-abbrev start : goal.In-loop-k → goal.Start
-start c = (head c).before.before.before
-
--- the entry of slot k has a mark
-low : (c : goal.In-loop-k) → get_or (start c).args.list.now c.loop-k.k 0 < length c.loop-k.marks
-low c =
-    let known = (start c).requires.each _ (get_d_in _ c.loop-k.k c.loop-k-test.true) in
-    omega (arith, c.loop-k.invariant.all)
-
 pub loop-k-init : goal.loop-k-init
-loop-k-init c = marking_none _ _ _
+loop-k-init c =
+    marking_none _ _ _
 
 pub bounds-marks-e : goal.bounds-marks-e
-bounds-marks-e c = omega (arith, low c.before, c.at16-e.ensures)
+bounds-marks-e c =
+    let low : get_or c.args.list.now c.loop-k.k 0 < length c.loop-k.marks =
+      let known = c.requires.each _ (get_d_in _ c.loop-k.k c.loop-k-test.true) in
+    omega (arith, c.loop-k.invariant.all) in
+    omega (arith, low, c.at16-e.ensures)
 
 pub loop-k-preserved : goal.loop-k-preserved
 loop-k-preserved c =
-    let at = c.before in
-    rw c.at16-e.ensures (marking_turn _ _ _ at.loop-k.invariant at.loop-k-test.true (low at))
+    let low : get_or c.args.list.now c.loop-k.k 0 < length c.loop-k.marks =
+      let known = c.requires.each _ (get_d_in _ c.loop-k.k c.loop-k-test.true) in
+    omega (arith, c.loop-k.invariant.all) in
+    rw c.at16-e.ensures (marking_turn _ _ _ c.loop-k.invariant c.loop-k-test.true low)
 
 pub shape_of-marks : goal.shape_of-marks
-shape_of-marks c = c.loop-k.invariant.all
+shape_of-marks c =
+    c.loop-k.invariant.all
 
 pub returns : goal.returns
-returns c = marking_all _ _ _ c.loop-k.invariant c.loop-k-test.false
+returns c =
+    marking_all _ _ _ c.loop-k.invariant c.loop-k-test.false

@@ -8,36 +8,32 @@ use Rattle.base_lists.proofs.FillingLaws.{get_d_in}
 use Rattle.span_narrow.proofs.SpreadLaws.{MarkingBy, marking_by_none, marking_by_turn, marking_by_all}
 use Rattle.span_narrow.proofs.digits.spread.Goals as goal
 
--- ---- places, from the last to the start
-
-abbrev head : goal.In-loop-k → goal.At-loop-k
-head c = c.before
-
-abbrev start : goal.In-loop-k → goal.Start
-start c = (head c).before.before.before
-
--- the entry of the slot before k has a mark
-low : (c : goal.In-loop-k) → get_or (start c).args.list.now (c.loop-k.k - 1) 0 < length c.loop-k.marks
-low c =
-    let known = (start c).requires.0.each _ (get_d_in _ (c.loop-k.k - 1) (omega (arith, c.loop-k.invariant.within, c.loop-k-test.true))) in
-    omega (arith, c.loop-k.invariant.all)
-
 pub loop-k-init : goal.loop-k-init
-loop-k-init c = marking_by_none _ _ _ c.requires.1.1
+loop-k-init c =
+    marking_by_none _ _ _ c.requires.apart.1
 
 pub at16-e-requires : goal.at16-e-requires
-at16-e-requires c = omega (arith, c.loop-k.invariant.within, c.loop-k-test.true)
+at16-e-requires c =
+    omega (arith, c.loop-k.invariant.within, c.loop-k-test.true)
 
 pub bounds-marks-e : goal.bounds-marks-e
-bounds-marks-e c = omega (arith, low c.before, c.at16-e.ensures)
+bounds-marks-e c =
+    let low : get_or c.args.list.now (c.loop-k.k - 1) 0 < length c.loop-k.marks =
+      let known = c.requires.below.each _ (get_d_in _ (c.loop-k.k - 1) (omega (arith, c.loop-k.invariant.within, c.loop-k-test.true))) in
+    omega (arith, c.loop-k.invariant.all) in
+    omega (arith, low, c.at16-e.ensures)
 
 pub loop-k-preserved : goal.loop-k-preserved
 loop-k-preserved c =
-    let at = c.before in
-    rw c.at16-e.ensures (marking_by_turn _ _ _ at.loop-k.invariant (start at).requires.1.0 at.loop-k-test.true (low at) refl)
+    let low : get_or c.args.list.now (c.loop-k.k - 1) 0 < length c.loop-k.marks =
+      let known = c.requires.below.each _ (get_d_in _ (c.loop-k.k - 1) (omega (arith, c.loop-k.invariant.within, c.loop-k-test.true))) in
+    omega (arith, c.loop-k.invariant.all) in
+    rw c.at16-e.ensures (marking_by_turn _ _ _ c.loop-k.invariant c.requires.apart.0 c.loop-k-test.true low refl)
 
 pub shape_of-marks : goal.shape_of-marks
-shape_of-marks c = c.loop-k.invariant.all
+shape_of-marks c =
+    c.loop-k.invariant.all
 
 pub returns : goal.returns
-returns c = marking_by_all _ _ _ c.loop-k.invariant (omega (arith, c.loop-k-test.false))
+returns c =
+    marking_by_all _ _ _ c.loop-k.invariant (omega (arith, c.loop-k-test.false))
