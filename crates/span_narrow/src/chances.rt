@@ -164,7 +164,7 @@ fn try_next(
 ) -> Trial
     requires trying { Trying (plan_of l words.now twos.now starts.now slots.now) marks.old table.now t.i }
     requires trials { Trials (plan_of l words.now twos.now starts.now slots.now) marks.old t × (t.k < get_or starts.now (t.i + 1) 0) }
-    ensures trials_2 { Trials (plan_of l words.now twos.now starts.now slots.now) marks.old result
+    ensures tried_next { Trials (plan_of l words.now twos.now starts.now slots.now) marks.old result
         × (result.k ≡ t.k + 1) × (result.i ≡ t.i) }
     ensures marks_unchanged { marks.new ≡ marks.old }
 {

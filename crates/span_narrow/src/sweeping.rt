@@ -64,8 +64,8 @@ fn sweep_place(
     requires planned { Planned (plan_of l words.now twos.now starts.now slots.now) × (i < length words.now) }
     requires sides { Sides (plan_of l words.now twos.now starts.now slots.now) marks.old (i + 1) (i + 1) }
     requires half { Half (plan_of l words.now twos.now starts.now slots.now) table.old (i + 1) 0 }
-    ensures sides_2 { Sides (plan_of l words.now twos.now starts.now slots.now) marks.new i i }
-    ensures half_2 { Half (plan_of l words.now twos.now starts.now slots.now) table.new i 0 }
+    ensures sides_left { Sides (plan_of l words.now twos.now starts.now slots.now) marks.new i i }
+    ensures swept { Half (plan_of l words.now twos.now starts.now slots.now) table.new i 0 }
 {
     let lo = span_steps::start_of(starts, i);
     let end = span_steps::start_of(starts, i + 1);
@@ -90,7 +90,7 @@ pub fn sweep(
     requires planned { Planned (plan_of l words.now twos.now starts.now slots.now) × (length marks.old ≡ length words.now) }
     requires half { Half (plan_of l words.now twos.now starts.now slots.now) table.old (length words.now) 0 }
     ensures sides { Sides (plan_of l words.now twos.now starts.now slots.now) marks.new 0 0 }
-    ensures half_2 { Half (plan_of l words.now twos.now starts.now slots.now) table.new 0 0 }
+    ensures swept { Half (plan_of l words.now twos.now starts.now slots.now) table.new 0 0 }
 {
     digits::fill(marks, 1);
     let mut i = words.len();

@@ -1,6 +1,7 @@
 -- `settle_laid` meets its contract: the states that can be reached are kept, and what is read off the table is the verdict by all builds. Assumes
 -- nothing.
-use mathlib.Core.Path.{refl}
+use mathlib.Core.Path.{refl, ap}
+use mathlib.Core.Bool.{not}
 use native.Mathlib.Omega.{arith}
 use borrow.Author.Rules.{rules}
 use Rattle.base_lists.proofs.TestLaws.{failed, passed}
@@ -17,21 +18,20 @@ sweep-requires c =
 
 pub completes-requires : goal.completes-requires
 completes-requires c =
-    known_first c.requires.planned c.sweep.ensures.sides c.sweep.ensures.half_2
+    known_first c.requires.planned c.sweep.ensures.sides c.sweep.ensures.swept
 
 pub returns-then-not-completes : goal.returns-then-not-completes
 returns-then-not-completes c =
-                let Swept-all = c.sweep.ensures in
-    record { settles_lists = none_settles c.requires.planned Swept-all.0 Swept-all.1 _ c.completes.ensures (failed refl c.if-not-completes.true); first_len = c.requires.marks_len.2 }
+    record { settles_lists = none_settles c.requires.planned c.sweep.ensures.sides c.sweep.ensures.swept _ c.completes.ensures (failed refl (ap not c.if-not-completes.true)); first_len = c.requires.marks_len.2 }
 
 pub read_off-requires : goal.read_off-requires
 read_off-requires c =
-    some_readable c.requires.planned c.sweep.ensures.sides c.sweep.ensures.half_2 c.completes.ensures (passed refl c.if-not-completes.false) c.requires.marks_len.2
+    some_readable c.requires.planned c.sweep.ensures.sides c.sweep.ensures.swept c.completes.ensures (passed refl (ap not c.if-not-completes.false)) c.requires.marks_len.2
 
 pub returns-then-read_off : goal.returns-then-read_off
 returns-then-read_off c =
-    record { settles_lists = several_settles c.requires.planned c.sweep.ensures.sides c.sweep.ensures.half_2 c.read_off.ensures c.if-read_off.true; first_len = c.read_off.ensures.all }
+    record { settles_lists = several_settles c.requires.planned c.sweep.ensures.sides c.sweep.ensures.swept c.read_off.ensures c.if-read_off.true; first_len = c.read_off.ensures.all }
 
 pub returns : goal.returns
 returns c =
-    record { settles_lists = sole_settles c.requires.planned c.sweep.ensures.sides c.sweep.ensures.half_2 c.read_off.ensures c.if-read_off.false; first_len = c.read_off.ensures.all }
+    record { settles_lists = sole_settles c.requires.planned c.sweep.ensures.sides c.sweep.ensures.swept c.read_off.ensures c.if-read_off.false; first_len = c.read_off.ensures.all }

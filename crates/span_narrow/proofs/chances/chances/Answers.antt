@@ -94,16 +94,16 @@ try_next-t-requires c =
       omega (arith, c.loop-t-test.true, end_is) in
         let inv = c.loop-t.invariant in
     let pre = c.requires in
-    rw inv.0 (trying_at c.loop-t.t inv.1 pre, (inv.2, more_at c.loop-t.t inv.1 pre more))
+    rw inv.0 (record { trying = trying_at c.loop-t.t inv.1 pre; trials = (inv.2, more_at c.loop-t.t inv.1 pre more) })
 
 pub loop-t-smaller : goal.loop-t-smaller
 loop-t-smaller c =
-    omega (arith, c.loop-t-test.true, c.try_next-t.ensures.trials_2.1)
+    omega (arith, c.loop-t-test.true, c.try_next-t.ensures.tried_next.1)
 
 pub loop-t-preserved : goal.loop-t-preserved
 loop-t-preserved c =
         let inv = c.loop-t.invariant in
-    (c.try_next-t.ensures.marks_unchanged ∙ inv.0, c.try_next-t.ensures.trials_2.2 ∙ inv.1, rw inv.0 at c.try_next-t.ensures.trials_2.0)
+    (c.try_next-t.ensures.marks_unchanged ∙ inv.0, c.try_next-t.ensures.tried_next.2 ∙ inv.1, rw inv.0 at c.try_next-t.ensures.tried_next.0)
 
 pub shape_of-marks : goal.shape_of-marks
 shape_of-marks c =

@@ -8,6 +8,7 @@ use borrow.Author.Rules.{rules}
 use Rattle.base_lists.proofs.FillingLaws.{get_d_in}
 use Rattle.span_narrow.proofs.StateLaws.{DueSoFar, due_none, due_turn, due_all}
 use Rattle.span_narrow.proofs.chances.dues.Goals as goal
+use Rattle.span_narrow.proofs.chances.dues.Goals.{then-is_due, else-is_due}
 
 pub loop-k-init : goal.loop-k-init
 loop-k-init c =
@@ -26,9 +27,10 @@ overflow_add-n c =
 pub loop-k-preserved : goal.loop-k-preserved
 loop-k-preserved c =
         let is = rw c.at16.ensures at (sym c.is_due.ensures) in
-    ⊎_elim (λ w. rw w.1 (due_turn _ _ _ _ c.loop-k.invariant c.loop-k-test.true (is ∙ w.0.true) refl))
-    (λ w. rw w.1 (due_turn _ _ _ _ c.loop-k.invariant c.loop-k-test.true (is ∙ w.0.left) (omega arith)))
-    c.if-is_due.branch
+    elim c.if-is_due.branch [
+      then-is_due w ↦ rw w.n-is (due_turn _ _ _ _ c.loop-k.invariant c.loop-k-test.true (is ∙ w.if-is_due.true) refl)
+    | else-is_due w ↦ rw w.n-is (due_turn _ _ _ _ c.loop-k.invariant c.loop-k-test.true (is ∙ w.if-is_due.false) (omega arith))
+    ]
 
 pub returns : goal.returns
 returns c =

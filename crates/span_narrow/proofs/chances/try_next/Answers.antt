@@ -1,5 +1,5 @@
 -- `try_next` meets its contract, by its three ways out (`trials_skip`, `trials_take`). Assumes nothing.
-use mathlib.Core.Path.{◌≡◌, refl, sym, ◌∙◌}
+use mathlib.Core.Path.{◌≡◌, refl, sym, ap, ◌∙◌}
 use mathlib.Core.Bool.{◌&&◌, not}
 use Prim.Native.Nat.{◌<◌}
 use native.Mathlib.Omega.{arith}
@@ -38,7 +38,7 @@ pub returns-then-not-can_stand : goal.returns-then-not-can_stand
 returns-then-not-can_stand c =
     let is-tried : c.can_stand.result ≡ (can_stand c.args.twos.now c.args.marks.now c.args.t.i c.args.t.due (get_or c.args.slots.now c.args.t.k 0) && not (eqb (get_or c.args.words.now (get_or c.args.slots.now c.args.t.k 0) 0) c.args.t.tried)) =
       rw c.at16-e.ensures at c.can_stand.ensures in
-    record { trials_2 = (trials_skip c.requires.trying c.requires.trials.0 c.requires.trials.1 (failed is-tried c.if-not-can_stand.true), refl, refl); marks_unchanged = refl }
+    record { tried_next = (trials_skip c.requires.trying c.requires.trials.0 c.requires.trials.1 (failed is-tried (ap not c.if-not-can_stand.true)), refl, refl); marks_unchanged = refl }
 
 pub offset_bounds-words-e : goal.offset_bounds-words-e
 offset_bounds-words-e c =
@@ -57,7 +57,7 @@ leads-requires c =
     let is-tried : c.can_stand.result ≡ (can_stand c.args.twos.now c.args.marks.now c.args.t.i c.args.t.due (get_or c.args.slots.now c.args.t.k 0) && not (eqb (get_or c.args.words.now (get_or c.args.slots.now c.args.t.k 0) 0) c.args.t.tried)) =
       rw c.at16-e.ensures at c.can_stand.ensures in
             rw c.at16-e.ensures
-    (trying_leading c.requires.trying (trials_in c.requires.trying c.requires.trials.0 c.requires.trials.1 (passed is-tried c.if-not-can_stand.false)))
+    (trying_leading c.requires.trying (trials_in c.requires.trying c.requires.trials.0 c.requires.trials.1 (passed is-tried (ap not c.if-not-can_stand.false))))
 
 pub overflow_add-result-then-leads : goal.overflow_add-result-then-leads
 overflow_add-result-then-leads c =
@@ -75,14 +75,14 @@ returns-then-leads c =
       rw c.at16-e.ensures at c.can_stand.ensures in
     let leads-is : c.leads.result ≡ is_some (paths_after (plan_of c.args.l c.args.words.now c.args.twos.now c.args.starts.now c.args.slots.now) c.args.marks.now c.args.t.i (get_or c.args.slots.now c.args.t.k 0)) =
       rw c.at16-e.ensures at c.leads.ensures.value in
-                rw c.at16-e.ensures (
-      (
-        trials_take c.requires.trying c.requires.trials.0 c.requires.trials.1 (passed is-tried c.if-not-can_stand.false) (sym leads-is ∙ c.if-leads.true) refl,
+                rw c.at16-e.ensures (record {
+      tried_next = (
+        trials_take c.requires.trying c.requires.trials.0 c.requires.trials.1 (passed is-tried (ap not c.if-not-can_stand.false)) (sym leads-is ∙ c.if-leads.true) refl,
         refl,
         refl,
-      ),
-      c.leads.ensures.marks_unchanged,
-    )
+      );
+      marks_unchanged = c.leads.ensures.marks_unchanged;
+    })
 
 pub overflow_add-result-2 : goal.overflow_add-result-2
 overflow_add-result-2 c =
@@ -96,12 +96,12 @@ returns c =
       rw c.at16-e.ensures at c.can_stand.ensures in
     let leads-is : c.leads.result ≡ is_some (paths_after (plan_of c.args.l c.args.words.now c.args.twos.now c.args.starts.now c.args.slots.now) c.args.marks.now c.args.t.i (get_or c.args.slots.now c.args.t.k 0)) =
       rw c.at16-e.ensures at c.leads.ensures.value in
-                rw c.at16-e.ensures (
-      (
-        trials_take c.requires.trying c.requires.trials.0 c.requires.trials.1 (passed is-tried c.if-not-can_stand.false) (sym leads-is ∙ c.if-leads.false)
+                rw c.at16-e.ensures (record {
+      tried_next = (
+        trials_take c.requires.trying c.requires.trials.0 c.requires.trials.1 (passed is-tried (ap not c.if-not-can_stand.false)) (sym leads-is ∙ c.if-leads.false)
             (omega arith),
         refl,
         refl,
-      ),
-      c.leads.ensures.marks_unchanged,
-    )
+      );
+      marks_unchanged = c.leads.ensures.marks_unchanged;
+    })

@@ -8,6 +8,7 @@ use borrow.Author.Rules.{rules}
 use Rattle.base_lists.proofs.FillingLaws.{get_d_in}
 use Rattle.span_narrow.proofs.ChooseLaws.{LookedFrom, looked_none, looked_skip, looked_more, looked_all}
 use Rattle.span_narrow.proofs.digits.choose.Goals as goal
+use Rattle.span_narrow.proofs.digits.choose.Goals.{then-is_picked, else-is_picked}
 
 pub loop-k-init : goal.loop-k-init
 loop-k-init c =
@@ -32,9 +33,10 @@ bounds-words-e c =
 pub loop-k-preserved : goal.loop-k-preserved
 loop-k-preserved c =
         let is = rw c.at16-e.ensures at (sym c.is_picked.ensures) in
-    ⊎_elim (λ w. rw w.1 (rw w.2 (looked_more _ _ _ _ _ c.loop-k.invariant c.loop-k-test.true (is ∙ w.0.true))))
-    (λ w. rw w.1 (rw w.2 (looked_skip _ _ _ _ _ c.loop-k.invariant c.loop-k-test.true (is ∙ w.0.left))))
-    c.if-is_picked.branch
+    elim c.if-is_picked.branch [
+      then-is_picked w ↦ rw w.at-is (rw w.more-is (looked_more _ _ _ _ _ c.loop-k.invariant c.loop-k-test.true (is ∙ w.if-is_picked.true)))
+    | else-is_picked w ↦ rw w.at-is (rw w.more-is (looked_skip _ _ _ _ _ c.loop-k.invariant c.loop-k-test.true (is ∙ w.if-is_picked.false)))
+    ]
 
 pub returns : goal.returns
 returns c =

@@ -10,7 +10,7 @@ use Rattle.span_narrow.proofs.digits.spread.Goals as goal
 
 pub loop-k-init : goal.loop-k-init
 loop-k-init c =
-    marking_by_none _ _ _ c.requires.apart.1
+    marking_by_none _ _ _ c.requires.b_bound
 
 pub at16-e-requires : goal.at16-e-requires
 at16-e-requires c =
@@ -28,7 +28,7 @@ loop-k-preserved c =
     let low : get_or c.args.list.now (c.loop-k.k - 1) 0 < length c.loop-k.marks =
       let known = c.requires.below.each _ (get_d_in _ (c.loop-k.k - 1) (omega (arith, c.loop-k.invariant.within, c.loop-k-test.true))) in
     omega (arith, c.loop-k.invariant.all) in
-    rw c.at16-e.ensures (marking_by_turn _ _ _ c.loop-k.invariant c.requires.apart.0 c.loop-k-test.true low refl)
+    rw c.at16-e.ensures (marking_by_turn _ _ _ c.loop-k.invariant c.requires.apart c.loop-k-test.true low refl)
 
 pub shape_of-marks : goal.shape_of-marks
 shape_of-marks c =

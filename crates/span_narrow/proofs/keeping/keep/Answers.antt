@@ -45,7 +45,7 @@ loop-i-smaller c =
 pub loop-i-preserved : goal.loop-i-preserved
 loop-i-preserved c =
     let inv = c.loop-i.invariant in (
-      c.keep_place.ensures,
+      (c.keep_place.ensures.sides, c.keep_place.ensures.kept_below),
       omega (arith, c.loop-i-test.true),
       omega (arith, c.marks-in-loop-i-1.given, inv.2),
       omega (arith, c.table-in-loop-i-1.given, inv.3),
@@ -57,7 +57,7 @@ shape_of-marks c =
 
 pub shape_of-table : goal.shape_of-table
 shape_of-table c =
-    omega (arith, c.loop-i.invariant.3, c.fill-2.ensures.all, length-set c.fill-2.new.0 0 1)
+    omega (arith, c.loop-i.invariant.3, c.fill-2.ensures.all, length-set c.fill-2.new.list 0 1)
 
 pub returns : goal.returns
 returns c =

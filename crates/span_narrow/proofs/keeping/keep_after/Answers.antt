@@ -74,7 +74,7 @@ cell_of-cell-requires c =
       c.start_of-lo.ensures in
     let end_is : c.start_of-end.result ≡ get_or c.args.starts.now (c.args.i + 1) 0 =
       c.start_of-end.ensures in
-    let pre = c.requires in record { below = there_below pre.0 lo_is end_is (length-set c.args.marks.now c.args.e 1); list_len_bound = (there_few pre.0 lo_is end_is, pre.0.numbered) }
+    record { below = there_below c.requires.list_there lo_is end_is (length-set c.args.marks.now c.args.e 1); list_len_bound = (there_few c.requires.list_there lo_is end_is, c.requires.list_there.numbered) }
 
 pub bounds-marks-e-2 : goal.bounds-marks-e-2
 bounds-marks-e-2 c =

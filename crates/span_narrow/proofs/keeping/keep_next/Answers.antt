@@ -1,6 +1,6 @@
 -- `keep_next` meets its contract, by its two ways out (`kept_skip`, `kept_take`). Assumes nothing.
-use mathlib.Core.Path.{◌≡◌, refl}
-use mathlib.Core.Bool.{true}
+use mathlib.Core.Path.{◌≡◌, refl, ap}
+use mathlib.Core.Bool.{true, not}
 use Prim.Native.Nat.{◌<◌}
 use native.Mathlib.Omega.{arith}
 use lib.ListN.{length}
@@ -28,7 +28,7 @@ returns-then-not-can_stand c =
       plan_of c.args.l c.args.words.now c.args.twos.now c.args.starts.now c.args.slots.now in
     let is-tried : c.can_stand.result ≡ is_tried plan c.args.marks.now c.args.t =
       rw c.at16-e.ensures at c.can_stand.ensures in
-    record { kept_if_tried = kept_skip (failed is-tried c.if-not-can_stand.true); marks_unchanged = refl }
+    record { kept_if_tried = kept_skip (failed is-tried (ap not c.if-not-can_stand.true)); marks_unchanged = refl }
 
 pub overflow_add-i : goal.overflow_add-i
 overflow_add-i c =
@@ -43,7 +43,7 @@ keep_after-requires c =
     let is-tried : c.can_stand.result ≡ is_tried plan c.args.marks.now c.args.t =
       rw c.at16-e.ensures at c.can_stand.ensures in
     let tried : is_tried plan c.args.marks.now c.args.t ≡ true =
-      passed is-tried c.if-not-can_stand.false in
+      passed is-tried (ap not c.if-not-can_stand.false) in
             let l = low in record { list_there = rw c.requires.keepable.marks_all c.requires.keepable.next; e_in_bounds = (
         omega (arith, c.requires.keepable.marks_all),
         rw c.at16-e.ensures (tried_left plan c.args.marks.now c.args.t tried),
@@ -69,5 +69,5 @@ returns c =
     let is-tried : c.can_stand.result ≡ is_tried plan c.args.marks.now c.args.t =
       rw c.at16-e.ensures at c.can_stand.ensures in
     let tried : is_tried plan c.args.marks.now c.args.t ≡ true =
-      passed is-tried c.if-not-can_stand.false in
+      passed is-tried (ap not c.if-not-can_stand.false) in
     record { kept_if_tried = kept_take c.at16-e.ensures tried refl (there_cell _ c.requires.keepable.next c.requires.keepable.room) c.keep_after.ensures.table_after; marks_unchanged = c.keep_after.ensures.marks_unchanged }

@@ -130,7 +130,8 @@ spread-requires c =
       c.start_of-lo.ensures in
     let end_is : c.start_of-end.result ≡ get_or c.args.starts.now (c.args.s.i + 1) 0 =
       c.start_of-end.ensures in
-    spread_asks c.requires.opening.planned in-card lo_is end_is c.requires.opening.sides.marks_all (rw (lo_is, end_is) c.requires.b_bound)
+    let asked = spread_asks c.requires.opening.planned in-card lo_is end_is c.requires.opening.sides.marks_all (rw (lo_is, end_is) c.requires.b_bound) in
+    record { below = asked.0; apart = asked.1.0; b_bound = asked.1.1 }
 
 pub keep_followers-requires : goal.keep_followers-requires
 keep_followers-requires c =

@@ -18,7 +18,8 @@ loop-i-init c =
 pub sweep_place-requires : goal.sweep_place-requires
 sweep_place-requires c =
         let inv = c.loop-i.invariant in
-    ((c.requires.planned.0, omega (arith, inv.1, c.loop-i-test.true)), back_one inv.0.0 inv.0.1 c.loop-i-test.true)
+    let back = back_one inv.0.0 inv.0.1 c.loop-i-test.true in
+    record { planned = (c.requires.planned.0, omega (arith, inv.1, c.loop-i-test.true)); sides = back.0; half = back.1 }
 
 pub loop-i-smaller : goal.loop-i-smaller
 loop-i-smaller c =
@@ -27,7 +28,7 @@ loop-i-smaller c =
 pub loop-i-preserved : goal.loop-i-preserved
 loop-i-preserved c =
     let inv = c.loop-i.invariant in (
-      c.sweep_place.ensures,
+      (c.sweep_place.ensures.sides_left, c.sweep_place.ensures.swept),
       omega (arith, inv.1),
       omega (arith, c.marks-in-loop-i-1.given, inv.2),
       omega (arith, c.table-1.given, inv.3),
@@ -43,4 +44,6 @@ shape_of-table c =
 
 pub returns : goal.returns
 returns c =
-    let inv = c.loop-i.invariant.0 in back_all inv.0 inv.1 (omega (arith, c.loop-i-test.false))
+    let inv = c.loop-i.invariant.0 in
+    let back = back_all inv.0 inv.1 (omega (arith, c.loop-i-test.false)) in
+    record { sides = back.0; swept = back.1 }

@@ -58,8 +58,8 @@ loop-b-init c =
       record {
         planned = c.requires.planned.0;
         inside = c.requires.planned.1;
-        sides = sides_back c.requires.sides.0;
-        half = half_next c.requires.planned.0 _ c.requires.sides.1 c.requires.planned.1 lo_is end_is c.sets_of-b.ensures;
+        sides = sides_back c.requires.sides;
+        half = half_next c.requires.planned.0 _ c.requires.half c.requires.planned.1 lo_is end_is c.sets_of-b.ensures;
       },
       omega (
         arith,
@@ -156,4 +156,4 @@ returns c =
       c.start_of-end.ensures in
     let lent : take (c.start_of-end.result - c.start_of-lo.result) (drop c.start_of-lo.result c.args.slots.now) ≡ list_at c.args.starts.now c.args.slots.now c.args.i =
       list_lent c.requires.planned.0.prepared c.requires.planned.1 lo_is end_is in
-    let inv = c.loop-b.invariant in record { sides_2 = sides_cleared inv.0.planned inv.0.inside inv.0.sides (rw lent at c.mark_list.ensures) (omega arith) refl; half_2 = half_done inv.0.half (omega (arith, c.loop-b-test.false)) }
+    let inv = c.loop-b.invariant in record { sides_left = sides_cleared inv.0.planned inv.0.inside inv.0.sides (rw lent at c.mark_list.ensures) (omega arith) refl; swept = half_done inv.0.half (omega (arith, c.loop-b-test.false)) }

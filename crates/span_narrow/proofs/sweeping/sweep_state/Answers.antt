@@ -108,8 +108,9 @@ spread-requires c =
       c.start_of-lo.ensures in
     let end_is : c.start_of-end.result ≡ get_or c.args.starts.now (c.args.s.i + 1) 0 =
       c.start_of-end.ensures in
-        let s = c.requires in
-    spread_asks s.0.planned s.0.inside lo_is end_is s.0.sides.marks_all (rw (lo_is, end_is) s.1)
+    let s = c.requires.sweeping in
+    let asked = spread_asks s.planned s.inside lo_is end_is s.sides.marks_all (rw (lo_is, end_is) c.requires.b_bound) in
+    record { below = asked.0; apart = asked.1.0; b_bound = asked.1.1 }
 
 pub chances-requires : goal.chances-requires
 chances-requires c =
