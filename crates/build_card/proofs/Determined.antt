@@ -21,8 +21,8 @@ use Rattle.build_card.proofs.build.Reads as build_reads
 
 -- one outcome at most is true
 pub means_one : {kind l budget : ℕ} {es : List Slot} {o o' : Outcome} → Means kind l es budget o → Means kind l es budget o' → o ≡ o'
-means_one (on_pairs e p) (on_pairs f q) = pairs.means-one p q
-means_one (on_spans e p) (on_spans f q) = spans.means-one p q
+means_one (on_pairs e p) (on_pairs f q) = pairs.means_one p q
+means_one (on_spans e p) (on_spans f q) = spans.means_one p q
 means_one (on_pairs e p) (on_spans f q) = absurd (omega (arith, e, f))
 means_one (on_spans e p) (on_pairs f q) = absurd (omega (arith, e, f))
 

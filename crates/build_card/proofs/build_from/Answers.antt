@@ -23,16 +23,16 @@ pub slice_bounds-found-end : goal.slice_bounds-found-end
 slice_bounds-found-end c =
     let few : length c.args.words.now ≤ most_entries =
       omega (arith, lists_count c.requires.lists_hold, (hold_count c.requires.lists_hold.hold).1) in
-    omega (arith, c.found-2-1.given, few)
+    omega (arith, few)
 
 pub slice_bounds-spelled-end : goal.slice_bounds-spelled-end
 slice_bounds-spelled-end c =
     let few : length c.args.words.now ≤ most_entries =
       omega (arith, lists_count c.requires.lists_hold, (hold_count c.requires.lists_hold.hold).1) in
     let words_at : List ℕ =
-      take (length c.args.words.now) c.find-r.new.1.1.1.1.1.0 in
+      take (length c.args.words.now) c.find-r.new.found in
     let found_all : length words_at ≡ length c.args.words.now =
-      length-take-le _ _ (omega (arith, c.found-2-1.given, few)) in
+      length-take-le _ _ (omega (arith, few)) in
     sym found_all
 
 pub spelled-requires : goal.spelled-requires
@@ -40,19 +40,19 @@ spelled-requires c =
     let few : length c.args.words.now ≤ most_entries =
       omega (arith, lists_count c.requires.lists_hold, (hold_count c.requires.lists_hold.hold).1) in
     let words_at : List ℕ =
-      take (length c.args.words.now) c.find-r.new.1.1.1.1.1.0 in
+      take (length c.args.words.now) c.find-r.new.found in
     let found_all : length words_at ≡ length c.args.words.now =
-      length-take-le _ _ (omega (arith, c.found-2-1.given, few)) in
+      length-take-le _ _ (omega (arith, few)) in
     record { spells = hold_spells c.requires.lists_hold found_all; out_len = c.requires.out_len ∙ sym (ap (λ (n : ℕ). n + c.args.f.l) found_all) }
 
 pub returns : goal.returns
 returns c =
     let words_at : List ℕ =
-      take (length c.args.words.now) c.find-r.new.1.1.1.1.1.0 in
+      take (length c.args.words.now) c.find-r.new.found in
     let few : length c.args.words.now ≤ most_entries =
       omega (arith, lists_count c.requires.lists_hold, (hold_count c.requires.lists_hold.hold).1) in
     let found_all : length words_at ≡ length c.args.words.now =
-      length-take-le _ _ (omega (arith, c.found-2-1.given, few)) in
+      length-take-le _ _ (omega (arith, few)) in
                 let r = c.find-r.result in
     let all = c.requires.out_len ∙ sym (ap (λ (n : ℕ). n + c.args.f.l) found_all) in
     record {

@@ -5,18 +5,22 @@ use Rattle.build_card.proofs.spelled.Goals as goal
 
 pub returns-in-Sole : goal.returns-in-Sole
 returns-in-Sole c =
-                spelled_sole c.args.l c.args.words.now c.requires.spells c.args.out.now c.requires.out_len
-    c.r-1.given.1 c.spell.ensures
+    let did = spelled_sole c.args.l c.args.words.now c.requires.spells c.args.out.now c.requires.out_len
+    c.in-Sole.is c.spell.ensures in
+    record { value = did.0; out_after = did.1 }
 
 pub returns-in-Several : goal.returns-in-Several
 returns-in-Several c =
-                spelled_several c.args.l c.args.words.now c.requires.spells c.args.out.now c.requires.out_len
-    c.r-in-Several-1.given.1 c.spell-in-Several.ensures
+    let did = spelled_several c.args.l c.args.words.now c.requires.spells c.args.out.now c.requires.out_len
+    c.in-Several.is c.spell-in-Several.ensures in
+    record { value = did.0; out_after = did.1 }
 
 pub returns-in-None : goal.returns-in-None
 returns-in-None c =
-    spelled_none c.args.l c.args.words.now c.args.out.now c.r-in-None-1.given.1
+    let did = spelled_none c.args.l c.args.words.now c.args.out.now c.in-None.is in
+    record { value = did.0; out_after = did.1 }
 
 pub returns-in-Unsettled : goal.returns-in-Unsettled
 returns-in-Unsettled c =
-    spelled_unsettled c.args.l c.args.words.now c.args.out.now c.r-in-Unsettled-1.given.1
+    let did = spelled_unsettled c.args.l c.args.words.now c.args.out.now c.in-Unsettled.is in
+    record { value = did.0; out_after = did.1 }

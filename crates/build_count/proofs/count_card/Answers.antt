@@ -8,17 +8,17 @@ use Rattle.build_count.proofs.count_card.Goals as goal
 pub count_listed-requires : goal.count_listed-requires
 count_listed-requires c =
             let did = c.admit_into.ensures in
-    let is = c.f-1.given.1 in
+    let is = c.in-Card.is in
     let few = listed_few did is in record { m_in_bounds = (
-        omega (arith, few, c.words-2-1.given),
-        omega (arith, few, c.ones-2-1.given),
-        omega (arith, few, c.twos-2-1.given),
+        omega (arith, few),
+        omega (arith, few),
+        omega (arith, few),
       ); lists_hold = listed_hold did is }
 
 pub returns-in-Card : goal.returns-in-Card
 returns-in-Card c =
-    listed_counts c.admit_into.ensures c.f-1.given.1 c.count_listed.ensures
+    listed_counts c.admit_into.ensures c.in-Card.is c.count_listed.ensures
 
 pub returns-in-Refused : goal.returns-in-Refused
 returns-in-Refused c =
-    card_refused c.admit_into.ensures c.r-1.given.1 (omega arith) (omega arith) (omega arith)
+    card_refused c.admit_into.ensures c.in-Refused.is (omega arith) (omega arith) (omega arith)

@@ -17,5 +17,5 @@ pair-requires c =
 pub returns : goal.returns
 returns c =
         let found = c.pair in
-    on_pairs (power_by found.result.found-1 found.result.choices)
+    on_pairs (power_by found.result.found found.result.choices)
     (hold_kind c.requires.hold c.if-f-eq-SPAN.false) found.ensures.many c.number_by.ensures

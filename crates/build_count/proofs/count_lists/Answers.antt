@@ -7,12 +7,12 @@ use Rattle.build_count.proofs.count_lists.Goals as goal
 
 pub count_from-requires : goal.count_from-requires
 count_from-requires c =
-    lists_held (told_holds c.lists_hold.ensures c.enum_told-1.given.1)
+    lists_held (told_holds c.lists_hold.ensures c.in-Holds.is)
 
 pub returns-in-Holds : goal.returns-in-Holds
 returns-in-Holds c =
-    kind_counts (told_holds c.lists_hold.ensures c.enum_told-1.given.1) c.count_from.ensures
+    kind_counts (told_holds c.lists_hold.ensures c.in-Holds.is) c.count_from.ensures
 
 pub returns-in-Refused : goal.returns-in-Refused
 returns-in-Refused c =
-    refused_counts (told_refused c.lists_hold.ensures c.r-1.given.1)
+    refused_counts (told_refused c.lists_hold.ensures c.in-Refused.is)

@@ -33,7 +33,7 @@ settle_narrow-requires c =
     let in-room : letters_in (format_for c.args.kind c.args.l c.args.words.now) ≤ length c.args.out.now =
       omega (arith, c.if-out-letters_in.false, c.letters_in.ensures) in
     let pass : PassesTests c.args.kind c.args.l c.args.words.now c.args.ones.now c.args.twos.now (length c.args.out.now) =
-      spans_pass c.requires in-room (told_holds c.spans_hold.ensures c.enum_told-1.given.1) in
+      spans_pass c.requires in-room (told_holds c.spans_hold.ensures c.in-Holds.is) in
     passes_as_span pass
 
 pub returns-in-Holds : goal.returns-in-Holds
@@ -41,7 +41,7 @@ returns-in-Holds c =
     let in-room : letters_in (format_for c.args.kind c.args.l c.args.words.now) ≤ length c.args.out.now =
       omega (arith, c.if-out-letters_in.false, c.letters_in.ensures) in
     let pass : PassesTests c.args.kind c.args.l c.args.words.now c.args.ones.now c.args.twos.now (length c.args.out.now) =
-      spans_pass c.requires in-room (told_holds c.spans_hold.ensures c.enum_told-1.given.1) in
+      spans_pass c.requires in-room (told_holds c.spans_hold.ensures c.in-Holds.is) in
     span_settles pass c.settle_narrow.ensures
 
 pub returns-in-Refused : goal.returns-in-Refused
@@ -49,4 +49,4 @@ returns-in-Refused c =
     let in-room : letters_in (format_for c.args.kind c.args.l c.args.words.now) ≤ length c.args.out.now =
       omega (arith, c.if-out-letters_in.false, c.letters_in.ensures) in
             spans_refused (lists_has_room _ _ _ _ _ _ _ (held_lists c.requires) in-room)
-    (told_refused c.spans_hold.ensures c.r-1.given.1)
+    (told_refused c.spans_hold.ensures c.in-Refused.is)

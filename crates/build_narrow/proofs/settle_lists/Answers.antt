@@ -8,8 +8,8 @@ use Rattle.build_narrow.proofs.settle_lists.Goals as goal
 
 pub settle_from-requires : goal.settle_from-requires
 settle_from-requires c =
-    lists_held (told_holds c.lists_hold.ensures c.enum_told-1.given.1)
+    lists_held (told_holds c.lists_hold.ensures c.in-Holds.is)
 
 pub returns-in-Refused : goal.returns-in-Refused
 returns-in-Refused c =
-    building_refused (lists_refuse _ _ _ _ _ _ _ (told_refused c.lists_hold.ensures c.r-1.given.1))
+    building_refused (lists_refuse _ _ _ _ _ _ _ (told_refused c.lists_hold.ensures c.in-Refused.is))

@@ -28,22 +28,22 @@ pub settle-r-requires : goal.settle-r-requires
 settle-r-requires c =
     let holds : SpanLists c.args.l c.args.words.now c.args.ones.now c.args.twos.now =
       passes_hold c.requires in
-    (holds, (passes_narrow c.requires, few_entries holds))
+    record { span_lists = holds; narrow = passes_narrow c.requires; words_in_bounds = few_entries holds }
 
 pub slice_bounds-found-end : goal.slice_bounds-found-end
 slice_bounds-found-end c =
     let holds : SpanLists c.args.l c.args.words.now c.args.ones.now c.args.twos.now =
       passes_hold c.requires in
-    omega (arith, c.found-2-1.given, few_entries holds)
+    omega (arith, few_entries holds)
 
 pub slice_bounds-spelled-end : goal.slice_bounds-spelled-end
 slice_bounds-spelled-end c =
     let holds : SpanLists c.args.l c.args.words.now c.args.ones.now c.args.twos.now =
       passes_hold c.requires in
     let words_at : List ℕ =
-      take (length c.args.words.now) c.settle-r.new.1.1.1.1.0 in
+      take (length c.args.words.now) c.settle-r.new.found in
     let found_all : length words_at ≡ length c.args.words.now =
-      length-take-le _ _ (omega (arith, c.found-2-1.given, few_entries holds)) in
+      length-take-le _ _ (omega (arith, few_entries holds)) in
     sym found_all
 
 pub slice_bounds-spelled-end-2 : goal.slice_bounds-spelled-end-2
@@ -67,9 +67,9 @@ spelled-requires c =
     let holds : SpanLists c.args.l c.args.words.now c.args.ones.now c.args.twos.now =
       passes_hold c.requires in
     let words_at : List ℕ =
-      take (length c.args.words.now) c.settle-r.new.1.1.1.1.0 in
+      take (length c.args.words.now) c.settle-r.new.found in
     let found_all : length words_at ≡ length c.args.words.now =
-      length-take-le _ _ (omega (arith, c.found-2-1.given, few_entries holds)) in
+      length-take-le _ _ (omega (arith, few_entries holds)) in
     let spells : Spells c.args.l words_at =
       hold_spells holds found_all in
     let letters-of : ℕ =
@@ -89,11 +89,11 @@ spelled-requires c =
 pub returns : goal.returns
 returns c =
     let words_at : List ℕ =
-      take (length c.args.words.now) c.settle-r.new.1.1.1.1.0 in
+      take (length c.args.words.now) c.settle-r.new.found in
     let holds : SpanLists c.args.l c.args.words.now c.args.ones.now c.args.twos.now =
       passes_hold c.requires in
     let found_all : length words_at ≡ length c.args.words.now =
-      length-take-le _ _ (omega (arith, c.found-2-1.given, few_entries holds)) in
+      length-take-le _ _ (omega (arith, few_entries holds)) in
     let spells : Spells c.args.l words_at =
       hold_spells holds found_all in
     let letters-of : ℕ =

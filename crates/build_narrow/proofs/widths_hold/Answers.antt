@@ -1,7 +1,8 @@
 -- `widths_hold` meets its contract. The invariant: the tests of the entries that are left answer as those of all do. What falls is how many
 -- are left. Assumes nothing.
 use borrow.Author.Rules.{rules}
-use mathlib.Core.Path.{◌≡◌, sym, ◌∙◌}
+use mathlib.Core.Path.{◌≡◌, sym, ap, ◌∙◌}
+use mathlib.Core.Bool.{not}
 use mathlib.Core.List.{[]}
 use Prim.Native.Nat.{ℕ, ◌-◌}
 use native.Mathlib.Omega.{arith}
@@ -31,7 +32,7 @@ returns-then-not-is_narrow c =
       slot_from c.args.words.now c.args.ones.now c.args.twos.now in
     let said : c.is_narrow.result ≡ is_narrow (slot-at c.loop-e.e) =
       rw c.slot_from.ensures at c.is_narrow.ensures in
-        let wrong = first_fail _ Wider c.loop-e.e [] sound (failed said c.if-not-is_narrow.true) in
+        let wrong = first_fail _ Wider c.loop-e.e [] sound (failed said (ap not c.if-not-is_narrow.true)) in
     sym (turn_refused (width_test slot-at) _ _ sound c.loop-e-test.true wrong) ∙ c.loop-e.invariant
 
 pub loop-e-preserved : goal.loop-e-preserved
@@ -40,7 +41,7 @@ loop-e-preserved c =
       slot_from c.args.words.now c.args.ones.now c.args.twos.now in
     let said : c.is_narrow.result ≡ is_narrow (slot-at c.loop-e.e) =
       rw c.slot_from.ensures at c.is_narrow.ensures in
-        let holds = first_last _ Wider c.loop-e.e sound (passed said c.if-not-is_narrow.false) in
+        let holds = first_last _ Wider c.loop-e.e sound (passed said (ap not c.if-not-is_narrow.false)) in
     turn_holds (width_test slot-at) _ _ sound c.loop-e-test.true holds ∙ c.loop-e.invariant
 
 pub returns : goal.returns
