@@ -1,9 +1,9 @@
 -- What build answers as a struct of numbers, for C; settling answers with the same struct.
---   build_answer a      == the struct of what is said: the verdict as 1 for sole, 2 for several, 3 for none and 4 for unsettled, the length of
+--   build_answer a     == the struct of what is said: the verdict as 1 for sole, 2 for several, 3 for none and 4 for unsettled, the length of
 --                         the sequence, or 0 where none is given, and the placements; or the refusal
 --   Told limit card budget before result after
 --                      == the struct `result`, and every byte of the output afterwards
---   flat_of r           == the struct of each case of the enum that `build_card` answers with
+--   flat_of r          == the struct of each case of the enum that `build_card` answers with
 -- Assumes nothing.
 use Rattle.std.specs.Prelude.{◌≡◌, List, ℕ, length}
 use Rattle.base_answers.specs.Answer.{Answer, given, refused}

@@ -6,7 +6,7 @@
 --   Letters s before after   == the sequence s stands at the start of the output
 --   Meant card budget before r after
 --                            == what the answer r means, by its cases, with the output after it
---   sequence_in r after       == the sequence that the answer r gives, as it stands in the output
+--   sequence_in r after      == the sequence that the answer r gives, as it stands in the output
 --   Widened card card'       == two cards as demand 3 takes them, the second of which allows more
 --   HasBuild r, IsSeveral r, Settles r
 --                            == the answer r gives a build, says that there are several, settles the card

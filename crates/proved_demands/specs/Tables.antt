@@ -1,5 +1,5 @@
 -- Tables on cards: the twelve small tables of 01, and tables of cards as demand 3 takes them.
---   kind_of t                 == the kind of the table t, by the places of its first entry (`kind_by`, `kind_in`)
+--   kind_of t                == the kind of the table t, by the places of its first entry (`kind_by`, `kind_in`)
 --   Holds ts                 == what build says of each table in ts is what the table says, at every budget not below its placements
 --   OnCard t card            == the card has the entries of the table t
 --   Within t t'              == there are two cards as demand 3 takes them, the narrower of the table t, the other of t', and what the tables say

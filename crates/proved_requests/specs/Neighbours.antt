@@ -1,12 +1,12 @@
 -- Pair cards whose two places are neighbours, and the span cards that they become (request 12): "Fitters convert pair cards whose two
 -- places are neighbours into span cards." The conversion is a claim and no operation.
---   Near s                   == the entry has one place, or p and p + 1
---   AllNear es               == each of the entries has
+--   Near s                    == the entry has one place, or p and p + 1
+--   AllNear es                == each of the entries has
 --   span_of s                 == the entry as one of a span card: one place p becomes the span from p to p
---   Converted es es'         == es' are the entries es of a pair card as entries of a span card
---   Spanned card card'       == a pair card, and the span card that it becomes
+--   Converted es es'          == es' are the entries es of a pair card as entries of a span card
+--   Spanned card card'        == a pair card, and the span card that it becomes
 --   SameSaid before r after before' r' after'
---                            == the answers r and r' say one verdict, and the outputs, which were before and before', have its letters
+--                             == the answers r and r' say one verdict, and the outputs, which were before and before', have its letters
 --   span_format f             == the format of the span card that a pair card of the format f becomes
 --   span_card card            == the bytes of that card
 --   span_twos words ones twos == the places two of its entries, from the lists of the pair card; words and places one stay

@@ -1,11 +1,11 @@
 -- Tables beside those of 01, of which the requests speak or which show that there are such cards, l = 2.
 --   p1Twice                  == two copies of P1 side by side
 --   CountedTable             == a table, with the number of its builds
---   counted_tables            == P1 to P7 and two copies of P1, with theirs
---   near_table                == a pair card with neighbouring places
---   crowded_table             == a narrow span card with 8 spans over a place
---   seven_table               == a narrow span card with 7 spans over a place, and a build
---   wide_table                == a span card whose entry 1 is the first that is not narrow
+--   counted_tables           == P1 to P7 and two copies of P1, with theirs
+--   near_table               == a pair card with neighbouring places
+--   crowded_table            == a narrow span card with 8 spans over a place
+--   seven_table              == a narrow span card with 7 spans over a place, and a build
+--   wide_table               == a span card whose entry 1 is the first that is not narrow
 -- Assumes nothing.
 use Rattle.std.specs.Prelude.{List, [], ◌∷◌, ◌++◌}
 use Rattle.card_entries.specs.declared.Places.TheVariants.{One, Two, Span}
