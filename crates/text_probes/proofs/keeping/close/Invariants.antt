@@ -1,9 +1,6 @@
 -- `close` meets its contract. The invariant is `Closed`. What falls is how many are left. Assumes nothing.
-use Prim.Native.Nat.{◌-◌, ◌<◌}
-use native.Mathlib.Omega.{arith}
-use lib.ListN.{length}
-use borrow.Author.Rules.{rules}
-use Rattle.text_probes.proofs.CloseLaws.{Closed, closed_none, so_far_length, closed_turn, closed_all}
+use Prim.Native.Nat.{◌-◌}
+use Rattle.text_probes.proofs.CloseLaws.{Closed}
 use Rattle.text_probes.proofs.keeping.close.Given as goal
 
 abbrev pub invariant-loop-e : goal.invariant-loop-e

@@ -1,7 +1,6 @@
 -- `close_for` meets its contract. Assumes nothing.
 use mathlib.Core.Path.{◌∙◌}
 use Rattle.text_probes.proofs.CloseLaws.{for_pair, for_span}
-use borrow.Author.Rules.{rules}
 use Rattle.text_probes.proofs.keeping.close_for.Goals as goal
 
 pub returns-then-kind-ne-SPAN : goal.returns-then-kind-ne-SPAN

@@ -3,7 +3,6 @@ use mathlib.Core.Path.{refl, ap}
 use native.Mathlib.Omega.{arith}
 use lib.ListN.{set}
 use Rattle.text_probes.proofs.KeepLaws.{set_beyond}
-use borrow.Author.Rules.{rules}
 use Rattle.text_probes.proofs.keeping.keep.Goals as goal
 
 pub returns-then-e-words : goal.returns-then-e-words

@@ -3,7 +3,6 @@ use mathlib.Core.Path.{sym, ap}
 use native.Mathlib.Omega.{arith}
 use Rattle.text_probes.specs.Listing.{one_of}
 use Rattle.text_probes.proofs.KeepLaws.{above_bare, above_two, above_run}
-use borrow.Author.Rules.{rules}
 use Rattle.text_probes.proofs.keeping.one_of.Goals as goal
 
 pub overflow_sub-result : goal.overflow_sub-result

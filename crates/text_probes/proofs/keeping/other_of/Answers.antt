@@ -4,7 +4,6 @@ use native.Mathlib.Omega.{arith}
 use Rattle.card_entries.specs.Fault.{pair}
 use Rattle.text_probes.specs.Listing.{two_of}
 use Rattle.text_probes.proofs.KeepLaws.{above_two, above_run}
-use borrow.Author.Rules.{rules}
 use Rattle.text_probes.proofs.keeping.other_of.Goals as goal
 
 pub overflow_sub-result : goal.overflow_sub-result

@@ -4,7 +4,6 @@ use native.Mathlib.Omega.{arith}
 use Rattle.base_letters.specs.Letters.{says_code}
 use Rattle.text_probes.specs.Says.{code_in}
 use Rattle.text_probes.proofs.WordCursor.{code_below}
-use borrow.Author.Rules.{rules}
 use Rattle.text_probes.proofs.line.code_in.Goals as goal
 
 pub overflow_cast-result : goal.overflow_cast-result

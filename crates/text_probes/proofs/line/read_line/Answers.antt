@@ -1,13 +1,10 @@
 -- `read_line` meets its contract (`LineCursor`). Assumes nothing.
-use mathlib.Core.Path.{◌≡◌, sym, ap, ◌∙◌}
-use mathlib.Core.Bool.{true}
-use mathlib.Core.Option.{some}
-use Prim.Native.Nat.{ℕ, ◌+◌, ◌<◌}
+use mathlib.Core.Path.{sym, ap, ◌∙◌}
+use Prim.Native.Nat.{◌<◌}
 use native.Mathlib.Omega.{arith}
-use lib.ListN.{length, drop}
-use Rattle.base_lists.proofs.TestLaws.{failed, passed}
-use Rattle.text_probes.specs.Reading.{tab, newline, after, read_listed}
-use Rattle.text_probes.specs.Says.{says_listing, stands}
+use lib.ListN.{length}
+use Rattle.text_probes.specs.Reading.{newline}
+use Rattle.text_probes.specs.Says.{says_listing}
 use Rattle.text_probes.proofs.LineCursor.{line_no_word, line_no_tab, line_no_listing, line_no_newline, line_whole, stood}
 use borrow.Author.Rules.{rules}
 use Rattle.text_probes.proofs.line.read_line.Goals as goal

@@ -1,13 +1,8 @@
 -- `read_listed` meets its contract: a number, and what is listed by it. Assumes nothing.
-use mathlib.Core.Path.{◌≡◌, sym, ap, ◌∙◌}
-use Prim.Native.Nat.{◌≤◌}
+use mathlib.Core.Path.{sym, ap, ◌∙◌}
 use native.Mathlib.Omega.{arith}
-use mathlib.Core.Option.{some}
-use lib.ListN.{length, drop}
-use Rattle.text_probes.specs.Reading.{read_number}
 use Rattle.text_probes.specs.Says.{says_number, number_end}
 use Rattle.text_probes.proofs.LineCursor.{listed_none, listed_on}
-use borrow.Author.Rules.{rules}
 use Rattle.text_probes.proofs.line.read_listed.Goals as goal
 
 pub returns-in_default : goal.returns-in_default

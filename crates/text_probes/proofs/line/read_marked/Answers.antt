@@ -1,6 +1,5 @@
 -- `read_marked` meets its contract (`LineCursor`). Assumes nothing.
 use Rattle.text_probes.proofs.LineCursor.{marked_past, marked_comma, marked_hyphen, marked_bare}
-use borrow.Author.Rules.{rules}
 use Rattle.text_probes.proofs.line.read_marked.Goals as goal
 
 pub returns-then-text-at : goal.returns-then-text-at

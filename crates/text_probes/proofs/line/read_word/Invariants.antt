@@ -1,10 +1,6 @@
 -- `read_word` meets its contract. The invariant is `Spelling`. What falls is how many bytes are left. Assumes nothing.
 use Prim.Native.Nat.{◌-◌}
-use native.Mathlib.Omega.{arith}
-use lib.ListN.{get_or}
-use borrow.Author.Rules.{rules}
-use Rattle.base_lists.proofs.TestLaws.{failed, passed}
-use Rattle.text_probes.proofs.WordCursor.{in_below, Spelling, spelling_none, spelling_stop, spelling_turn, spelling_end}
+use Rattle.text_probes.proofs.WordCursor.{Spelling}
 use Rattle.text_probes.proofs.line.read_word.Given as goal
 
 abbrev pub invariant-loop-end : goal.invariant-loop-end

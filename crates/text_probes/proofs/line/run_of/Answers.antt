@@ -2,7 +2,6 @@
 use mathlib.Core.Path.{sym, ap}
 use Rattle.text_probes.specs.declared.line.Marked.TheVariants.{Run}
 use Rattle.text_probes.specs.Says.{lists_both}
-use borrow.Author.Rules.{rules}
 use Rattle.text_probes.proofs.line.run_of.Goals as goal
 
 pub returns-in-Number : goal.returns-in-Number

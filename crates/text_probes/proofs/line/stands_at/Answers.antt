@@ -1,6 +1,5 @@
 -- `stands_at` meets its contract. Assumes nothing.
 use Rattle.text_probes.proofs.LineCursor.{stands_past, stands_here}
-use borrow.Author.Rules.{rules}
 use Rattle.text_probes.proofs.line.stands_at.Goals as goal
 
 pub returns-then-text-at : goal.returns-then-text-at

@@ -1,14 +1,9 @@
 -- `read_number` meets its contract (`NumberCursor`). Assumes nothing.
-use mathlib.Core.Path.{◌≡◌, ◌∙◌, sym}
-use mathlib.Core.Bool.{true}
-use Prim.Native.Nat.{◌≤◌}
+use mathlib.Core.Path.{◌∙◌, sym}
 use native.Mathlib.Omega.{arith}
 use lib.ListN.{get_or}
-use Rattle.base_lists.proofs.TestLaws.{failed, passed}
-use Rattle.text_probes.specs.Reading.{digit0, digit9, is_digit}
 use Rattle.text_probes.proofs.NumberLaws.{digit_is}
 use Rattle.text_probes.proofs.NumberCursor.{number_past, number_zero, number_no, number_on}
-use borrow.Author.Rules.{rules}
 use Rattle.text_probes.proofs.number.read_number.Goals as goal
 
 pub returns-then-text-at : goal.returns-then-text-at

@@ -1,7 +1,6 @@
 -- `has_zero` meets its contract. Assumes nothing.
 use mathlib.Core.Path.{sym, ap, ◌∙◌}
 use Rattle.text_probes.specs.Testing.{has_zero}
-use borrow.Author.Rules.{rules}
 use Rattle.text_probes.proofs.scanning.has_zero.Goals as goal
 
 pub returns-in-Bare : goal.returns-in-Bare

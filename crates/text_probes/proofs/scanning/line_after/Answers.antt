@@ -1,11 +1,8 @@
 -- `line_after` meets its contract: the tests in their order (`TestLaws`). Assumes nothing.
-use mathlib.Core.Path.{◌≡◌, sym, ap, ◌∙◌}
-use mathlib.Core.Bool.{true}
+use mathlib.Core.Path.{sym, ap, ◌∙◌}
 use Rattle.base_answers.specs.Answer.{given}
-use Rattle.base_lists.proofs.TestLaws.{failed, passed}
-use Rattle.text_probes.specs.Testing.{mark_of, agree}
+use Rattle.text_probes.specs.Testing.{agree}
 use Rattle.text_probes.proofs.TestLaws.{later_mixed, later_uneven, later_zero, later_sound, outline_after_lem}
-use borrow.Author.Rules.{rules}
 use Rattle.text_probes.proofs.scanning.line_after.Goals as goal
 
 pub returns-then-not-agrees : goal.returns-then-not-agrees
