@@ -1,5 +1,7 @@
 // Build: from a lent card to its verdict and its sequence. The card is admitted once, into lists; then the room is tested, the method of
 // the card's kind is run over the lists, and the words that it finds are spelled. `build` has no `requires`: it tests its own input.
+#![tactic(auto)]
+
 pub mod methods;
 
 ghost use Rattle.std.specs.Prelude.{◌≡◌, ◌+◌, ◌≤◌, length, take};

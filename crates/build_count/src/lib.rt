@@ -1,5 +1,7 @@
 // How many builds a pair card has: none, or a power of two, whose exponent is given. `count_card` and `count_lists` have no `requires`: each
 // tests its own input.
+#![tactic(auto)]
+
 ghost use Rattle.std.specs.Prelude.{◌≡◌, ◌≤◌, length, take};
 ghost use Rattle.base_answers.specs.Answer.{given};
 ghost use Rattle.card_entries.specs.Slot.{entries_in};

@@ -1,5 +1,7 @@
 // Narrow span cards, settled without a budget: from a card and from lists, to the verdict and the sequence. `settle_card` and `settle_lists`
 // have no `requires`: each tests its own input.
+#![tactic(auto)]
+
 ghost use Rattle.std.specs.Prelude.{◌≡◌, ◌∷◌, ◌+◌, ◌-◌, ◌≤◌, eqb, length, take};
 ghost use Rattle.base_answers.specs.Numbers.{Kind};
 ghost use Rattle.base_answers.specs.Answer.{test, first, sound, says_held};

@@ -3,6 +3,8 @@
 // 128 sets, and a table has a cell for each place and set. Forward, the cell of each state that can be reached is kept; backward, those that
 // are kept learn which entries lead on from there to a build; then the first build is read off. So the work is bounded: for each place at most
 // 128 sets, and for each set 7 entries, each against the 7 of the next place.
+#![tactic(auto)]
+
 mod chances;
 mod digits;
 mod keeping;
