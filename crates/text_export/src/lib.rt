@@ -1,5 +1,7 @@
 // Exporting a card to a probe list: from an admitted card to its text at the start of a lent output. `export` has no `requires`: it tests
 // its own input. `measuring` says how long the list is, `putting` puts it.
+#![tactic(auto)]
+
 mod measuring;
 mod putting;
 

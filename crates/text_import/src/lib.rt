@@ -1,4 +1,6 @@
 // Importing a probe list: from its text to a card at the start of a lent output. `import` has no `requires`: it tests its own input.
+#![tactic(auto)]
+
 ghost use Rattle.std.specs.Prelude.{◌≡◌, length};
 ghost use Rattle.card_entries.specs.Bounds.{most_entries};
 ghost use Rattle.text_probes.specs.Testing.{kind_of};

@@ -65,9 +65,9 @@ pub keeps_turn : {xs : List Line} (d x : Line) {m n word : ℕ} {y : Marked} {wo
     → m < length xs → get_or xs m d ≡ x → word ≡ kept 0 x.word → y ≡ x.listed → n ≡ m + 1
     → (words' ≡ set words m word) × (ones' ≡ set ones m (one_of y)) × (twos' ≡ set twos m (two_of pair y))
     → Keeps xs n words' ones' twos'
-keeps_turn {xs} d x {m} {n} {word} {y} {words} {ones} {twos} so_far h this is_IsWord is_listed_lem next put =
+keeps_turn {xs} d x {m} {n} {word} {y} {words} {ones} {twos} so_far h this worded listed next put =
     rw (next, put.0) (rw (put.1, put.2) (record {
-      in_words = holds_turn word_kept xs d m word words so_far.in_words h (is_IsWord ∙ sym (ap word_kept this));
-      in_ones = holds_turn one_kept xs d m (one_of y) ones so_far.in_ones h (ap one_of is_listed_lem ∙ sym (ap one_kept this));
-      in_twos = holds_turn two_kept xs d m (two_of pair y) twos so_far.in_twos h (ap (two_of pair) is_listed_lem ∙ sym (ap two_kept this));
+      in_words = holds_turn word_kept xs d m word words so_far.in_words h (worded ∙ sym (ap word_kept this));
+      in_ones = holds_turn one_kept xs d m (one_of y) ones so_far.in_ones h (ap one_of listed ∙ sym (ap one_kept this));
+      in_twos = holds_turn two_kept xs d m (two_of pair y) twos so_far.in_twos h (ap (two_of pair) listed ∙ sym (ap two_kept this));
     }))
