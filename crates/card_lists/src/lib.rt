@@ -1,5 +1,7 @@
 // The tests of three lists, words, place one and place two, over the entries' promise: what a card's writer, and whoever
 // builds from lists, asks first. `lists_hold` has no `requires`: it tests its own input.
+#![tactic(auto)]
+
 ghost use Rattle.std.specs.Prelude.{◌≡◌, ◌≤◌, ◌<◌, length};
 ghost use Rattle.base_answers.specs.Answer.{first, sound, says_held};
 ghost use Rattle.base_lists.specs.Row.{in_turn};

@@ -1,6 +1,5 @@
 -- `card_lists::slot_from` meets its contract. Assumes nothing.
 use mathlib.Core.Path.{sym}
-use borrow.Author.Rules.{rules}
 use Rattle.card_entries.proofs.SlotLaws.{slot_from_lem}
 use Rattle.card_lists.proofs.slot_from.Goals as goal
 
