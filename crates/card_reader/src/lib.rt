@@ -1,5 +1,7 @@
 // The card's reader, over the block layer's promise and the entries': admit a card, fetch an entry, step a reading head, admit into lent
 // lists. No function that the scope names has a `requires`: each tests its own input.
+#![tactic(auto)]
+
 pub mod listing;
 mod reading;
 

@@ -1,5 +1,4 @@
 -- `card_reader::admit` meets its contract. Assumes nothing.
-use borrow.Author.Rules.{rules}
 use mathlib.Core.Path.{sym, ap, ◌∙◌}
 use Rattle.base_answers.specs.Answer.{given}
 use Rattle.base_answers.proofs.Laws.{told_holds, told_refused}
@@ -7,13 +6,12 @@ use Rattle.card_reader.proofs.FetchingLaws.{order_admits, admission_given, admis
 use Rattle.card_reader.proofs.admit.Goals as goal
 
 pub told_by-requires : goal.told_by-requires
-told_by-requires c = (order_admits (told_holds c.card_holds.ensures c.enum_told-1.given.1)).head.there
+told_by-requires c = (order_admits (told_holds c.card_holds.ensures c.in-Holds.is)).head.there
 
 pub returns-in-Holds : goal.returns-in-Holds
 returns-in-Holds c =
-    let told = c.before in
-    let holds = told_holds told.card_holds.ensures told.enum_told-1.given.1 in
+    let holds = told_holds c.card_holds.ensures c.in-Holds.is in
     ap given c.told_by.ensures ∙ sym (admission_given _ _ holds)
 
 pub returns-in-Refused : goal.returns-in-Refused
-returns-in-Refused c = sym (admission_refused _ _ (told_refused c.card_holds.ensures c.r-1.given.1))
+returns-in-Refused c = sym (admission_refused _ _ (told_refused c.card_holds.ensures c.in-Refused.is))

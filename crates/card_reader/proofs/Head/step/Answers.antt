@@ -1,6 +1,5 @@
 -- `card_reader::Head::step` meets its contract: the reader's refusal, or by where the head stands.
 -- Assumes nothing.
-use borrow.Author.Rules.{rules}
 use mathlib.Core.Path.{sym, ap, ◌∙◌}
 use native.Mathlib.Omega.{arith}
 use Rattle.base_answers.specs.Answer.{given}
@@ -9,39 +8,30 @@ use Rattle.card_entries.specs.declared.Format.{Format}
 use Rattle.card_entries.specs.Bounds.{most_entries}
 use Prim.Native.Nat.{◌+◌}
 use Rattle.card_reader.specs.Fetching.{more}
-use Rattle.card_reader.proofs.FetchingLaws.{Admits, told_admitted, told_not_admitted, entry_on_card, step_more, step_end, step_refused}
+use Rattle.card_reader.proofs.FetchingLaws.{told_admitted, told_not_admitted, entry_on_card, step_more, step_end, step_refused}
 use Rattle.card_reader.proofs.Head.step.Goals as goal
 
 -- ---- past the admission
 
-module _ (c : goal.In-Card-2) where
-  abbrev start : goal.Start
-  start = let answered = c.before.before in answered.before.before
-
-  has : Admits most_entries start.args.card.now c.f-1.given.0.0
-  has = told_admitted _ _ c.admit.ensures c.f-1.given.1
-
 pub overflow_add-next : goal.overflow_add-next
 overflow_add-next c =
-    let admitted = c.before.before.before in
-    omega (arith, ap (λ (f : Format). f.m) (has admitted).told, (has admitted).head.most)
+    let has = told_admitted _ _ c.admit.ensures c.in-Card.is in
+    omega (arith, ap (λ (f : Format). f.m) has.told, has.head.most)
 
 pub entry_at-requires : goal.entry_at-requires
 entry_at-requires c =
-    let admitted = c.before.before.before in (
-      ap (λ (f : Format). f.kind) (has admitted).told,
-      omega (arith, entry_on_card most_entries (start admitted).args.card.now (has admitted) (start admitted).args.self.at c.if-at-f.true),
+    let has = told_admitted _ _ c.admit.ensures c.in-Card.is in (
+      ap (λ (f : Format). f.kind) has.told,
+      omega (arith, entry_on_card most_entries c.args.card.now has c.args.self.at c.if-at-f.true),
     )
 
 pub returns-then-at-f : goal.returns-then-at-f
 returns-then-at-f c =
-    let within = c.before in
-    let admitted = within.before.before.before in
-    ap (λ (e : Entry). given (more e ((start admitted).args.self.at + 1))) c.entry_at.ensures
-    ∙ sym (step_more _ _ (has admitted) _ within.if-at-f.true)
+    let has = told_admitted _ _ c.admit.ensures c.in-Card.is in
+    ap (λ (e : Entry). given (more e (c.args.self.at + 1))) c.entry_at.ensures ∙ sym (step_more _ _ has _ c.if-at-f.true)
 
 pub returns-else-at-f : goal.returns-else-at-f
-returns-else-at-f c = sym (step_end _ _ (has c.before.before.before) _ c.if-at-f.false)
+returns-else-at-f c = sym (step_end _ _ (told_admitted _ _ c.admit.ensures c.in-Card.is) _ c.if-at-f.false)
 
 pub returns-in-Refused : goal.returns-in-Refused
-returns-in-Refused c = sym (step_refused _ _ _ (told_not_admitted _ _ c.admit.ensures c.r-1.given.1))
+returns-in-Refused c = sym (step_refused _ _ _ (told_not_admitted _ _ c.admit.ensures c.in-Refused.is))

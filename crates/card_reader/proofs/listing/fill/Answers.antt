@@ -1,26 +1,10 @@
 -- `card_reader::listing::fill` meets its contract. The invariant: each list is filled with the entries that were read so far. Assumes nothing.
 use borrow.Author.Rules.{rules}
-use mathlib.Core.Path.{◌≡◌, ap}
-use mathlib.Core.List.{List}
-use Prim.Native.Nat.{ℕ, ◌-◌, ◌≤◌}
+use mathlib.Core.Path.{ap}
 use native.Mathlib.Omega.{arith}
-use lib.ListN.{length}
 use Rattle.card_entries.specs.declared.Slot.{Slot}
-use Rattle.card_layout.specs.Layout.{slot_of}
-use Rattle.card_reader.specs.Listing.{filled}
 use Rattle.card_reader.proofs.ListingLaws.{filled_none, filled_turn, filled_whole}
 use Rattle.card_reader.proofs.listing.fill.Goals as goal
-
-module _ (card : List ℕ) (m : ℕ) (words₀ ones₀ twos₀ : List ℕ) where
-  -- the first e entries stand in the three lists
-  record Reached (words ones twos : List ℕ) (e : ℕ) : Type 0 where
-    within : e ≤ m
-    in_words : words ≡ filled (λ i. (slot_of card i).word) e words₀
-    in_ones : ones ≡ filled (λ i. (slot_of card i).one) e ones₀
-    in_twos : twos ≡ filled (λ i. (slot_of card i).two) e twos₀
-    words_length : length words ≡ length words₀
-    ones-length : length ones ≡ length ones₀
-    twos-length : length twos ≡ length twos₀
 
 pub loop-e-init : goal.loop-e-init
 loop-e-init c =
@@ -52,7 +36,9 @@ loop-e-preserved c =
 
 pub returns : goal.returns
 returns c =
-    let so_far = c.loop-e.invariant in (
-      filled_whole _ _ _ _ (omega arith) so_far.in_words,
-      (filled_whole _ _ _ _ (omega arith) so_far.in_ones, filled_whole _ _ _ _ (omega arith) so_far.in_twos),
-    )
+    let so_far = c.loop-e.invariant in
+    record {
+      words_after = filled_whole _ _ _ _ (omega arith) so_far.in_words;
+      ones_after = filled_whole _ _ _ _ (omega arith) so_far.in_ones;
+      twos_after = filled_whole _ _ _ _ (omega arith) so_far.in_twos;
+    }

@@ -2,22 +2,12 @@
 -- do. Assumes nothing.
 use borrow.Author.Rules.{rules}
 use mathlib.Core.Path.{◌≡◌, sym, ◌∙◌}
-use mathlib.Core.List.{List}
-use Prim.Native.Nat.{ℕ, ◌+◌, ◌-◌, ◌≤◌}
+use Prim.Native.Nat.{◌+◌, ◌-◌}
 use native.Mathlib.Omega.{arith}
-use Rattle.base_answers.specs.Answer.{first, sound}
-use Rattle.base_lists.specs.Row.{in_turn}
+use Rattle.base_answers.specs.Answer.{sound}
 use Rattle.base_answers.proofs.Laws.{turn_holds, turn_refused, turns_end, told_holds, told_refused}
-use Rattle.card_entries.specs.declared.Format.{Format}
 use Rattle.card_layout.specs.Layout.{entry_blocks}
-use Rattle.card_reader.specs.Reading.{later_tests}
 use Rattle.card_reader.proofs.reading.laters_hold.Goals as goal
-
--- block k is next, and `last` is the last
-record Reached (card : List ℕ) (f : Format) (last k : ℕ) : Type 0 where
-  begun : 1 ≤ k
-  within : k ≤ last + 1
-  left : first (in_turn (later_tests f card) k (last + 1 - k)) sound ≡ first (in_turn (later_tests f card) 1 (entry_blocks f.m)) sound
 
 pub loop-k-init : goal.loop-k-init
 loop-k-init c =
@@ -25,24 +15,22 @@ loop-k-init c =
     record { begun = search rules; within = search rules; left = rw whole }
 
 pub later_holds-requires : goal.later_holds-requires
-later_holds-requires c = omega arith
+later_holds-requires c =
+    let so_far = c.loop-k.invariant in
+    record { l_le_most_length = omega arith; le_k = omega arith }
 
 pub returns-in-Refused : goal.returns-in-Refused
 returns-in-Refused c =
-    let asked = c.before.before.before in
-    let turn = asked.before in
-    let refused = told_refused asked.later_holds.ensures c.r-1.given.1 in
-    sym (turn_refused _ _ _ sound (omega arith) refused) ∙ turn.loop-k.invariant.left
+    let refused = told_refused c.later_holds.ensures c.in-Refused.is in
+    sym (turn_refused _ _ _ sound (omega arith) refused) ∙ c.loop-k.invariant.left
 
 pub loop-k-preserved : goal.loop-k-preserved
 loop-k-preserved c =
-    let asked = c.before.before in
-    let turn = asked.before in
-    let holds = told_holds asked.later_holds.ensures c.enum_told-1.given.1 in
+    let holds = told_holds c.later_holds.ensures c.in_default.is in
     record {
       begun = search rules;
       within = search rules;
-      left = turn_holds _ _ _ sound (omega arith) holds ∙ turn.loop-k.invariant.left;
+      left = turn_holds _ _ _ sound (omega arith) holds ∙ c.loop-k.invariant.left;
     }
 
 pub returns : goal.returns

@@ -1,13 +1,10 @@
 -- `card_reader::reading::slots_hold` meets its contract. The invariant: the tests of the slots that are left answer as those of all do.
 -- Assumes nothing.
-use borrow.Author.Rules.{rules}
-use mathlib.Core.Path.{◌≡◌, sym, ◌∙◌}
+use mathlib.Core.Path.{◌≡◌}
 use Prim.Native.Nat.{ℕ, ◌+◌, ◌-◌, ◌≤◌}
-use native.Mathlib.Omega.{arith}
 use mathlib.Core.List.{List}
-use Rattle.base_answers.specs.Answer.{Test, first, sound, says_held}
+use Rattle.base_answers.specs.Answer.{Test, first, sound}
 use Rattle.base_lists.specs.Row.{in_turn}
-use Rattle.base_answers.proofs.Laws.{turn_holds, turn_refused, turns_end, told_holds, told_refused}
 use Rattle.card_entries.specs.declared.Format.{Format}
 use Rattle.card_entries.specs.Slot.{slot_at}
 use Rattle.card_entries.specs.Fault.{entry_tests}
