@@ -66,6 +66,14 @@ given_case (None k) is = tt
 given_case (Unsettled k) is = tt
 given_case (Refused x) is = absurd (miss (0 ∷ 1 ∷ 2 ∷ 3 ∷ []) 4 tt is)
 
+-- what is not `Refused` is no refusal
+pub given_other : (r : BuildAnswer) → ((x : Refusal) → r ≡ Refused x → ⊥) → IsGiven r
+given_other (Sole n k) other = tt
+given_other (Several n k) other = tt
+given_other (None k) other = tt
+given_other (Unsettled k) other = tt
+given_other (Refused x) other = absurd (other x refl)
+
 -- ---- what was answered, and the letters after it
 
 module _ (before : List ℕ) (said : Answer Outcome) {card letters : List ℕ} {r : BuildAnswer} (answer : r ≡ answer_of said)

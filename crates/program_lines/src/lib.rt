@@ -1,5 +1,7 @@
 // What the programs print for a card. `build`: line 1 with its kind, l and m and line 2 with its verdict, or the one line of a refusal.
 // `settle` and `count_builds` have their own files, and so has line 2.
+#![tactic(auto)]
+
 pub mod count;
 pub mod settle;
 pub mod verdict;

@@ -2,14 +2,10 @@
 use mathlib.Core.Path.{refl}
 use Rattle.card_entries.specs.Bounds.{most_entries}
 use Rattle.program_lines.proofs.ReportLaws.{settle_tellable, settle_reported}
-use borrow.Author.Rules.{rules}
 use Rattle.program_lines.proofs.settle.report.Goals as goal
 
-abbrev settled : goal.After-letters-3-1 → goal.After-settle_card-answer
-settled c = c.before.before.before
-
-pub put_answer-requires : goal.put_answer-requires
-put_answer-requires c = record { tellable = settle_tellable most_entries _ _ (settled c).settle_card-answer.ensures; letters_len_bound = search rules }
+pub put_answer-requires-clause-tellable : goal.put_answer-requires-clause-tellable
+put_answer-requires-clause-tellable c = settle_tellable most_entries _ _ c.settle_card-answer.ensures
 
 pub returns : goal.returns
-returns c = settle_reported most_entries _ _ (settled c.before).settle_card-answer.ensures refl c.put_answer.ensures
+returns c = settle_reported most_entries _ _ c.settle_card-answer.ensures refl c.put_answer.ensures
