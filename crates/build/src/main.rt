@@ -1,10 +1,11 @@
 // The program `build`: reads a card from standard input, and prints its two lines or its refusal.
-use libc::STDOUT_FILENO;
+#![tactic(auto)]
+
 use program_lines::LINES;
 
-fn main() {
+fn main(rt: HostRuntime) {
     let usage = b"usage: build < CARD\n";
-    let card = program_streams::card::read(0, usage, b"build: standard input");
+    let card = program_streams::card::read(&rt, 0, usage, b"build: standard input");
     if !card.whole {
         return;
     }
@@ -12,5 +13,10 @@ fn main() {
     let n = card.n;
     let mut out = [0u8; LINES];
     let printed = program_lines::report(&bytes[..n], &mut out);
-    program_streams::write(STDOUT_FILENO, &out[..printed], b"build: standard output");
+    program_streams::write(
+        &rt,
+        &rt.stdout(),
+        &out[..printed],
+        b"build: standard output",
+    );
 }

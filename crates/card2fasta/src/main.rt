@@ -1,11 +1,13 @@
 // The program `card2fasta NAME`: reads a card from standard input, and writes the FASTA record of its only build, by that name; or on standard
 // error why there is none.
-use libc::{STDERR_FILENO, STDOUT_FILENO};
+#![tactic(auto)]
+
+use std::rt::Env;
 use text_fasta::MOST_NAME;
 
-fn main() {
+fn main(rt: HostRuntime) {
     let usage = b"usage: card2fasta NAME < CARD > RECORD\n";
-    let card = program_streams::card::read(1, usage, b"card2fasta: standard input");
+    let card = program_streams::card::read(&rt, 1, usage, b"card2fasta: standard input");
     if !card.whole {
         return;
     }
@@ -13,7 +15,7 @@ fn main() {
     let n = card.n;
     // Of a name that is longer than one may be there are no bytes, and no record has an empty name.
     let mut name = [0u8; MOST_NAME];
-    let k = os::arg(1, &mut name);
+    let k = rt.arg(1, &mut name).unwrap_or(0);
     let mut out = [0u8; program_converting::to_fasta::RECORD];
     let mut err = [0u8; program_lines::verdict::LINE];
     let written = program_converting::to_fasta::convert(
@@ -25,9 +27,10 @@ fn main() {
     let output = written.output;
     let errors = written.errors;
     program_streams::write(
-        STDOUT_FILENO,
+        &rt,
+        &rt.stdout(),
         &out[..output],
         b"card2fasta: standard output",
     );
-    io::write_all(STDERR_FILENO, &err[..errors]);
+    program_streams::say(&rt, &err[..errors]);
 }

@@ -1,9 +1,9 @@
 // The program `card2list`: reads a card from standard input, and writes its probe list, or on standard error why there is none.
-use libc::{STDERR_FILENO, STDOUT_FILENO};
+#![tactic(auto)]
 
-fn main() {
+fn main(rt: HostRuntime) {
     let usage = b"usage: card2list < CARD > LIST\n";
-    let card = program_streams::card::read(0, usage, b"card2list: standard input");
+    let card = program_streams::card::read(&rt, 0, usage, b"card2list: standard input");
     if !card.whole {
         return;
     }
@@ -14,6 +14,11 @@ fn main() {
     let written = program_converting::to_list::convert(&bytes[..n], &mut out, &mut err);
     let output = written.output;
     let errors = written.errors;
-    program_streams::write(STDOUT_FILENO, &out[..output], b"card2list: standard output");
-    io::write_all(STDERR_FILENO, &err[..errors]);
+    program_streams::write(
+        &rt,
+        &rt.stdout(),
+        &out[..output],
+        b"card2list: standard output",
+    );
+    program_streams::say(&rt, &err[..errors]);
 }

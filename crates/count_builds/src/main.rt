@@ -1,10 +1,11 @@
 // The program `count_builds`: reads a card from standard input, and prints how many builds it has, or its refusal.
-use libc::STDOUT_FILENO;
+#![tactic(auto)]
+
 use program_lines::count::LINE;
 
-fn main() {
+fn main(rt: HostRuntime) {
     let usage = b"usage: count_builds < CARD\n";
-    let card = program_streams::card::read(0, usage, b"count_builds: standard input");
+    let card = program_streams::card::read(&rt, 0, usage, b"count_builds: standard input");
     if !card.whole {
         return;
     }
@@ -13,7 +14,8 @@ fn main() {
     let mut out = [0u8; LINE];
     let printed = program_lines::count::report(&bytes[..n], &mut out);
     program_streams::write(
-        STDOUT_FILENO,
+        &rt,
+        &rt.stdout(),
         &out[..printed],
         b"count_builds: standard output",
     );

@@ -71,6 +71,15 @@ verdict_by_lem limit name letters (None k) is = refl
 verdict_by_lem limit name letters (Unsettled k) is = refl
 verdict_by_lem limit name letters (Refused x) is = absurd (miss (1 ∷ 2 ∷ 3 ∷ []) 4 tt is)
 
+-- what is neither `Sole` nor `Refused`
+other_by : (limit : ℕ) (name letters : List ℕ) (r : BuildAnswer) → ((n k : ℕ) → r ≡ Sole n k → ⊥) → ((x : Refusal) → r ≡ Refused x → ⊥)
+    → on_errors (verdict_by r letters) ≡ written_by limit name r letters
+other_by limit name letters (Sole n k) built refuses = absurd (built n k refl)
+other_by limit name letters (Several n k) built refuses = refl
+other_by limit name letters (None k) built refuses = refl
+other_by limit name letters (Unsettled k) built refuses = refl
+other_by limit name letters (Refused x) built refuses = absurd (refuses x refl)
+
 module _ {limit : ℕ} {card before letters : List ℕ} {r : BuildAnswer} (room : length before ≡ letters_room limit)
     (built : Builds limit card program_budget before r letters) where
   by_answer_lem : {name out err out' err' : List ℕ} {q : Lengths} → Converted (written_by limit name r letters) out err q out' err'
@@ -93,3 +102,8 @@ module _ {limit : ℕ} {card before letters : List ℕ} {r : BuildAnswer} (room 
     pub verdict_written : OneOf (1 ∷ 2 ∷ 3 ∷ []) (tag_of the_type r) → Put (verdict_by r letters) 0 err n err'
         → ToFasta limit card name out err (record { output = 0; errors = n }) out err'
     verdict_written is put = by_answer_lem (rw (verdict_by_lem limit name letters r is) at (errors_written out put))
+
+    pub other_written : ((n k : ℕ) → r ≡ Sole n k → ⊥) → ((x : Refusal) → r ≡ Refused x → ⊥) → Put (verdict_by r letters) 0 err n err'
+        → ToFasta limit card name out err (record { output = 0; errors = n }) out err'
+    other_written no_sole no_refusal put =
+        by_answer_lem (rw (other_by limit name letters r no_sole no_refusal) at (errors_written out put))

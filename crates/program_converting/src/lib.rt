@@ -1,5 +1,7 @@
 // What the programs `list2card`, `card2list` and `card2fasta` write, on standard output and on standard error. No public function has a
 // `requires`.
+#![tactic(auto)]
+
 pub mod to_card;
 pub mod to_fasta;
 pub mod to_list;

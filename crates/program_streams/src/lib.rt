@@ -84,13 +84,7 @@ fn fill(rt: &HostRuntime, bytes: &mut [u8], what: &[u8]) -> Given
 }
 
 // Reads standard input to the start of the buffer, where the program was called with so many arguments.
-fn take(
-    rt: &HostRuntime,
-    bytes: &mut [u8],
-    arguments: usize,
-    usage: &[u8],
-    what: &[u8],
-) -> Given
+fn take(rt: &HostRuntime, bytes: &mut [u8], arguments: usize, usage: &[u8], what: &[u8]) -> Given
     ensures { result.n ≤ length bytes.new }
 {
     if !called_with(rt, arguments, usage) {

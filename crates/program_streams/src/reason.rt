@@ -1,7 +1,6 @@
 // Why a stream failed, in the system's own words.
-use std::fmt;
 use std::fmt::Write;
-use std::io;
+use std::{fmt, io};
 
 // Room for the longest text of an error.
 const ROOM: usize = 288;

@@ -1,25 +1,11 @@
 -- `main` is safe: the card is a part of what was read, and what is printed is a part of its buffer (`printed_fits`). Assumes nothing.
 use mathlib.Core.Path.{sym}
 use lib.Seq.{length-take-le}
-use borrow.Author.Rules.{rules}
 use Rattle.base_text.proofs.PrintedLaws.{printed_fits}
 use Rattle.count_builds.proofs.main.Goals as goal
-
--- the card was read
-abbrev card-read : goal.After-bytes-2-1 → goal.After-read-card
-card-read c = let whole = c.before.before in whole.before.before
-
-slice-aggregate-read : tie.Need-slice-aggregate-read
-slice-aggregate-read c = search rules
-
-pub slice_bounds-report-end : goal.slice_bounds-report-end
-slice_bounds-report-end c = sym (length-take-le _ _ (card-read c).read-card.ensures.1)
 
 pub slice_bounds-out-end : goal.slice_bounds-out-end
 slice_bounds-out-end c = printed_fits c.report-printed.ensures
 
 pub slice_bounds-write-end : goal.slice_bounds-write-end
 slice_bounds-write-end c = sym (length-take-le _ _ (printed_fits c.report-printed.ensures))
-
-slice-aggregate-write-2 : tie.Need-slice-aggregate-write-2
-slice-aggregate-write-2 c = search rules

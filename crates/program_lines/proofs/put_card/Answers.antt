@@ -14,4 +14,5 @@ returns c =
     let texts = put_then c.put_text-kind_at.ensures c.put_kind-l_at.ensures in
     record {
       put = put_as (put_then texts c.put_two.ensures.put) (card_put c.told_by-f.ensures);
-      upper_bound = omega (arith, texts.ends, c.put_two.ensures.upper_bound, name_length_lem c.told_by-f.result.kind) }
+      upper_bound = omega (arith, texts.ends, c.put_two.ensures.upper_bound, name_length_lem c.told_by-f.result.kind);
+    }
