@@ -1,5 +1,7 @@
 // The card's writer, over the promises of the lists' tests, the layout, the entries and the block layer: from a kind, the letters of a word and
 // three lists to a card at the start of a lent output. `write` has no `requires`: it tests its own input.
+#![tactic(auto)]
+
 ghost use Rattle.std.specs.Prelude.{◌≡◌, ◌+◌, ◌*◌, ◌≤◌, ◌<◌, length};
 ghost use Rattle.base_lists.specs.Parts.{put_at};
 ghost use Rattle.card_block.specs.Block.{block_bytes};
@@ -23,8 +25,8 @@ pub enum Written {
 
 // Writes n entries of the lists, from entry e on, into a part from its first byte on.
 fn put_slots(part: &mut [u8], words: &[u32], ones: &[u16], twos: &[u16], e: usize, n: usize)
-    requires n_in_bounds { entry_bytes * n ≤ length part.old }
-    requires n_in_bounds_2 { (e + n ≤ length words.now) × (e + n ≤ length ones.now) × (e + n ≤ length twos.now) }
+    requires room { entry_bytes * n ≤ length part.old }
+    requires listed { (e + n ≤ length words.now) × (e + n ≤ length ones.now) × (e + n ≤ length twos.now) }
     ensures { part.new
         ≡ put_at (slots_bytes (slot_from words.now ones.now twos.now) e n) 0 part.old }
 {
@@ -37,8 +39,8 @@ fn put_slots(part: &mut [u8], words: &[u32], ones: &[u16], twos: &[u16], e: usiz
 
 // Writes block k, which is not block 0, of a card of the lists, which has m entries.
 fn put_later(part: &mut [u8], words: &[u32], ones: &[u16], twos: &[u16], m: usize, k: usize)
-    requires part_len { (length part.old ≡ block_bytes) × (m ≤ most_entries) × (1 ≤ k) × (k ≤ entry_blocks m) }
-    requires m_in_bounds { (m ≤ length words.now) × (m ≤ length ones.now) × (m ≤ length twos.now) }
+    requires block_and_index { (length part.old ≡ block_bytes) × (m ≤ most_entries) × (1 ≤ k) × (k ≤ entry_blocks m) }
+    requires listed { (m ≤ length words.now) × (m ≤ length ones.now) × (m ≤ length twos.now) }
     ensures { part.new
         ≡ sealed (slots_bytes (slot_from words.now ones.now twos.now) (entries_before k) (entries_in_block m k)) k }
 {
@@ -49,8 +51,8 @@ fn put_later(part: &mut [u8], words: &[u32], ones: &[u16], twos: &[u16], m: usiz
 
 // Writes a card of this format over all of an output that has its size.
 fn put_card(out: &mut [u8], f: Format, words: &[u32], ones: &[u16], twos: &[u16])
-    requires kind_bound { (f.kind < 256) × (f.l < 256) × (f.m ≤ most_entries) × (length out.old ≡ size_of f.m) }
-    requires m_in_bounds { (f.m ≤ length words.now) × (f.m ≤ length ones.now) × (f.m ≤ length twos.now) }
+    requires format_fits { (f.kind < 256) × (f.l < 256) × (f.m ≤ most_entries) × (length out.old ≡ size_of f.m) }
+    requires listed { (f.m ≤ length words.now) × (f.m ≤ length ones.now) × (f.m ≤ length twos.now) }
     ensures { out.new ≡ card_of f (slot_from words.now ones.now twos.now) }
 {
     card_layout::put_head(&mut out[..BLOCK], f);

@@ -1,9 +1,7 @@
 -- `card_writer::put_slots` meets its contract: one slot more in each turn (`slotted_turn`). What falls is how many are left. Assumes nothing.
-use borrow.Author.Rules.{rules}
 use Prim.Native.Nat.{◌-◌}
-use native.Mathlib.Omega.{arith}
 use Rattle.card_entries.specs.Slot.{slot_from}
-use Rattle.card_writer.proofs.PuttingLaws.{Slotted, slotted_none, slotted_turn, slotted_length, slotted_all}
+use Rattle.card_writer.proofs.PuttingLaws.{Slotted}
 use Rattle.card_writer.proofs.put_slots.Given as goal
 
 abbrev pub invariant-loop-j : goal.invariant-loop-j
