@@ -21,8 +21,8 @@ fn has_room(m: usize, words: usize, ones: usize, twos: usize) -> bool
 
 // Writes the words and places of the first m entries of a card into lists that have room for them.
 fn fill(card: &[u8], m: usize, words: &mut [u32], ones: &mut [u16], twos: &mut [u16])
-    requires m_le_most_entries { (m ≤ most_entries) × (size_of m ≤ length card.now) }
-    requires m_in_bounds { (m ≤ length words.old) × (m ≤ length ones.old) × (m ≤ length twos.old) }
+    requires on_card { (m ≤ most_entries) × (size_of m ≤ length card.now) }
+    requires room { (m ≤ length words.old) × (m ≤ length ones.old) × (m ≤ length twos.old) }
     ensures words_after { words.new ≡ filled (λ e. (slot_of card.now e).word) m words.old }
     ensures ones_after { ones.new ≡ filled (λ e. (slot_of card.now e).one) m ones.old }
     ensures twos_after { twos.new ≡ filled (λ e. (slot_of card.now e).two) m twos.old }

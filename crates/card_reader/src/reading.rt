@@ -90,8 +90,8 @@ fn slots_hold(part: &[u8], f: Format, e: usize, n: usize) -> Held
 
 // Block k, which is not block 0: it holds, its entries do, and its spare bytes are zero.
 fn later_holds(card: &[u8], f: Format, k: usize) -> Held
-    requires l_le_most_length { (f.l ≤ most_length) × (f.m ≤ most_entries) }
-    requires le_k { (1 ≤ k) × (k ≤ entry_blocks f.m) × (block_bytes * k + block_bytes ≤ length card.now) }
+    requires format_in_bounds { (f.l ≤ most_length) × (f.m ≤ most_entries) }
+    requires block_there { (1 ≤ k) × (k ≤ entry_blocks f.m) × (block_bytes * k + block_bytes ≤ length card.now) }
     ensures { says_held result ≡ first (later_tests f card.now k) sound }
 {
     let part = card_block::fetch(card, k);

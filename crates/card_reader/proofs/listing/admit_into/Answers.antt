@@ -13,8 +13,8 @@ fill-requires c =
     let fits = room_fits _ _ _ _ (sym c.has_room.ensures ∙ c.if-has_room.true) in
     let m = ap (λ (f : Format). f.m) has.told in
     record {
-      m_le_most_entries = (omega (arith, m, has.head.most), omega (arith, m, has.size));
-      m_in_bounds = (fits.in_words, fits.in_ones, fits.in_twos);
+      on_card = (omega (arith, m, has.head.most), omega (arith, m, has.size));
+      room = (fits.in_words, fits.in_ones, fits.in_twos);
     }
 
 pub returns-then-has_room : goal.returns-then-has_room

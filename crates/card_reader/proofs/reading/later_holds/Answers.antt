@@ -11,7 +11,7 @@ use Rattle.card_reader.proofs.reading.later_holds.Goals as goal
 pub returns-then-part-eq0 : goal.returns-then-part-eq0
 returns-then-part-eq0 c =
     let refuses = part_none _ _ c.fetch-part.ensures.bytes c.if-part-eq0.true in
-    c.companion.ensures ∙ sym (later_refused _ _ _ c.requires.le_k.2 refuses)
+    c.companion.ensures ∙ sym (later_refused _ _ _ c.requires.block_there.2 refuses)
 
 -- ---- where a part is fetched: it is the block, which holds
 
@@ -26,7 +26,7 @@ returns-in-Refused c =
     let bytes = c.fetch-part.ensures.bytes in
     let some = c.if-part-eq0.false in
     let said = c.slots_hold.ensures ∙ slots_same (part_block _ _ bytes some) c.entries_in_block-n.ensures _ c.entries_before.ensures in
-    sym (slot_refused _ _ _ c.requires.le_k.2 (part_holds _ _ bytes some) (told_refused said c.in-Refused.is))
+    sym (slot_refused _ _ _ c.requires.block_there.2 (part_holds _ _ bytes some) (told_refused said c.in-Refused.is))
 
 pub slots_spare-requires : goal.slots_spare-requires
 slots_spare-requires c = (part_length _ _ c.fetch-part.ensures.bytes c.if-part-eq0.false, omega arith)
@@ -40,7 +40,7 @@ returns-then-slots_spare c =
     let said = c.slots_hold.ensures ∙ slots_same (part_block _ _ bytes some) c.entries_in_block-n.ensures _ c.entries_before.ensures in
     let spare = c.slots_spare.ensures ∙ spare_same (part_block _ _ bytes some) c.entries_in_block-n.ensures in
     let slots = told_holds said c.in_default.is in
-    sym (later_sound _ _ _ c.requires.le_k.2 (part_holds _ _ bytes some) slots (sym spare ∙ c.if-slots_spare.true))
+    sym (later_sound _ _ _ c.requires.block_there.2 (part_holds _ _ bytes some) slots (sym spare ∙ c.if-slots_spare.true))
 
 pub returns-else-slots_spare : goal.returns-else-slots_spare
 returns-else-slots_spare c =
@@ -49,4 +49,4 @@ returns-else-slots_spare c =
     let said = c.slots_hold.ensures ∙ slots_same (part_block _ _ bytes some) c.entries_in_block-n.ensures _ c.entries_before.ensures in
     let spare = c.slots_spare.ensures ∙ spare_same (part_block _ _ bytes some) c.entries_in_block-n.ensures in
     let slots = told_holds said c.in_default.is in
-    sym (later_not_spare _ _ _ c.requires.le_k.2 (part_holds _ _ bytes some) slots (sym spare ∙ c.if-slots_spare.false))
+    sym (later_not_spare _ _ _ c.requires.block_there.2 (part_holds _ _ bytes some) slots (sym spare ∙ c.if-slots_spare.false))

@@ -17,7 +17,7 @@ loop-k-init c =
 pub later_holds-requires : goal.later_holds-requires
 later_holds-requires c =
     let so_far = c.loop-k.invariant in
-    record { l_le_most_length = omega arith; le_k = omega arith }
+    record { format_in_bounds = omega arith; block_there = omega arith }
 
 pub returns-in-Refused : goal.returns-in-Refused
 returns-in-Refused c =
