@@ -78,7 +78,7 @@ module _ (m budget : ℕ) where
       → state < 2 → n ≤ budget → budget < n + length reached → run m budget r reached ≡ spent
   run_over none s h le over = absurd (omega arith)
   run_over {path} {kept} {n} {state} {r} (more {ws} {reached} short d) s h le over =
-      run_more m budget r ws reached ∙ go (leb budget n) refl (λ lt. run_over d (reach_on s h lt ws short) h (omega arith) (omega arith))
+      run_more m budget r ws reached ∙ go (leb budget n) refl (λ lt. run_over {n = suc n} d (reach_on s h lt ws short) h (omega arith) (omega arith))
     where
       go : (b : Bool) → leb budget n ≡ b → (n < budget → run m budget (reach m budget r ws) reached ≡ spent)
           → run m budget (reach m budget r ws) reached ≡ spent
@@ -90,7 +90,7 @@ module _ (m budget : ℕ) where
   run_fits {n} {r} none s h le = let z : n + 0 ≡ n = omega arith in rw (z, run_none m budget r) s
   run_fits {n} {r} (more {ws} {reached} short d) s h le =
       let z : n + suc (length reached) ≡ suc n + length reached = omega arith in
-      rw (z, run_more m budget r ws reached) (run_fits d (reach_on s h (omega arith) ws short) h (omega arith))
+      rw (z, run_more m budget r ws reached) (run_fits {n = suc n} d (reach_on s h (omega arith) ws short) h (omega arith))
 
   -- ---- a run that completes no build and is not stopped tells it
 
@@ -98,7 +98,7 @@ module _ (m budget : ℕ) where
       → state < 2 → Shows path' n' state kept' (run m budget r reached)
       → Dead m reached × (n + length reached ≡ n')
   run_kept {r} [] s h t = (none, omega (arith, placed_same s h (rw (run_none m budget r) at t)))
-  run_kept {path} {path'} {kept} {kept'} {n} {n'} {state} {r} (ws ∷ reached) s h t = go (reaches s h ws) (λ v. run_kept reached v h t')
+  run_kept {path} {path'} {kept} {kept'} {n} {n'} {state} {r} (ws ∷ reached) s h t = go (reaches s h ws) (λ v. run_kept {n = suc n} reached v h t')
     where
       t' : Shows path' n' state kept' (run m budget (reach m budget r ws) reached)
       t' = rw (run_more m budget r ws reached) at t

@@ -130,7 +130,7 @@ fn walk_from(
         (noted marks.old first.old))
         (noted marks.new first.new)
         result }
-    ensures recalls_2 { Recalls (walk_tables words.now twos.now starts.now slots.now) at.mask known.new }
+    ensures still_recalls { Recalls (walk_tables words.now twos.now starts.now slots.now) at.mask known.new }
 {
     let i = at.i;
     let want = at.want;
