@@ -74,7 +74,11 @@ full_more : (l n i : ℕ) (p : Option ℕ) (left : List Slot)
     → full (suc n) (walk l (suc n) i p left) ≡ paths l (suc n) i p left
 unfolding paths
 full_more l n i p left led =
-    ap (full (suc n)) (walk_more l n i p left) ∙ keep_flat_map (λ ws. eqb (length ws) (suc n)) _ _ led (tried l i p left)
+    ap (full (suc n)) (walk_more l n i p left)
+    ∙ keep_flat_map (λ ws. eqb (length ws) (suc n))
+    (λ c. map (λ ws. word_of c ∷ ws) ([] ∷ walk l n (suc i) (some (word_of c)) c.left))
+    (λ c. map (λ ws. word_of c ∷ ws) (paths l n (suc i) (some (word_of c)) c.left))
+    led (tried l i p left)
 
 -- what a choice leads to, in full
 full_led : (l n i w : ℕ) (p : Option ℕ) (left : List Slot)

@@ -1,1 +1,3 @@
+#![tactic(auto)]
+
 // The walk on span cards as 01 words it: its definition, and what is proved of it. No function is here.
