@@ -1,6 +1,8 @@
 // What the walk remembers: of a state that it walked to its end without a build the number of its placements, by a key that no other state
 // has. The memory is a list of numbers, two for each cell, a key and a size; a key of 0 says nothing, and whatever is stored may be replaced.
 // The functions are called by the walk alone, but for `bits_of`, by which narrow cards are settled too.
+#![tactic(auto)]
+
 pub mod tally;
 
 ghost use Rattle.std.specs.Prelude.{◌≡◌, ◌≤◌, ◌<◌, length, replicate};

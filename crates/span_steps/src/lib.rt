@@ -1,4 +1,6 @@
 // What the methods for span cards share: reading the lists of the places, and the tests of one entry at a place.
+#![tactic(auto)]
+
 ghost use Rattle.std.specs.Prelude.{◌≡◌, ◌<◌, length, get_or};
 ghost use Rattle.span_steps.specs.Steps.{agrees, is_due};
 

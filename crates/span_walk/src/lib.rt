@@ -1,4 +1,6 @@
 // The walk on span cards, over lists of words and places. Its tables and marks are its own.
+#![tactic(auto)]
+
 ghost use Rattle.std.specs.Prelude.{◌≡◌, cond, ◌≤◌, ◌<◌, eqb, length, set, take};
 ghost use Rattle.card_entries.specs.Slot.{entries_in};
 ghost use Rattle.card_entries.specs.KindLists.{SpanLists};

@@ -1,11 +1,8 @@
 -- `bits_of` meets its contract: the loop keeps that the marks of the first k entries are told (`Telling`). What falls is how many are left.
 -- Assumes nothing.
 use Prim.Native.Nat.{◌-◌}
-use native.Mathlib.Omega.{arith}
-use lib.ListN.{length, get_or}
-use borrow.Author.Rules.{rules}
-use Rattle.base_lists.proofs.FillingLaws.{get_d_in}
-use Rattle.span_memory.proofs.KeyLaws.{Telling, mark_small, telling_none, telling_few, telling_turn, telling_all}
+use lib.ListN.{length}
+use Rattle.span_memory.proofs.KeyLaws.{Telling}
 use Rattle.span_memory.proofs.bits_of.Given as goal
 
 abbrev pub invariant-loop-k : goal.invariant-loop-k

@@ -1,6 +1,5 @@
 -- `mark_of` meets its contract, by its one test. Assumes nothing.
 use borrow.Author.Tests.{eq-eqb, ne_eqb}
-use borrow.Author.Rules.{rules}
 use Rattle.span_memory.proofs.mark_of.Goals as goal
 
 pub returns-then-marks-j-eq0 : goal.returns-then-marks-j-eq0

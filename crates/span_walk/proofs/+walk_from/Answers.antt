@@ -130,8 +130,8 @@ loop-k-preserved t c =
     let e = looping_turn inv.0 c.loop-k-test.true c.at16-e.ensures in
     let room : c.loop-k.tally.placed < c.args.at.budget = omega (arith, c.if-tally-budget.false, inv.0.held.within) in
     let turned = held_turn c.requires.ready e.held inv.0.inside e.low e.free inv.0.going room
-        c.keep_word.ensures (record { place = inv.1.place; mask = inv.1.mask; budget = inv.1.budget }) refl
-        c.placed_at-below.ensures c.walk_from-tally.ensures.went_on in (
+    c.keep_word.ensures (record { place = inv.1.place; mask = inv.1.mask; budget = inv.1.budget }) refl
+    c.placed_at-below.ensures c.walk_from-tally.ensures.went_on in (
       record {
         held = held_next turned c.next-k-in-loop-k.ensures;
         open_slots = open_next _ inv.0.open_slots turned.unmarked c.next-k-in-loop-k.ensures;

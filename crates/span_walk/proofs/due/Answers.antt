@@ -27,12 +27,12 @@ loop-k-preserved c =
     let there = c.requires.slots_below.ends in
     let so_far = c.loop-k.invariant in
     elim c.if-is_due.branch [
-    | then-is_due+else-the-hi w ↦
-        let found = sym c.is_due.ensures ∙ w.if-is_due.true in
-        rw w.the-is (seen_first _ _ _ _ _ _ there so_far c.loop-k-test.true w.if-the-hi.false (rw c.at16.ensures at found))
-    | else-is_due w ↦
-        let missed = sym c.is_due.ensures ∙ w.if-is_due.false in
-        rw w.the-is (seen_not _ _ _ _ _ _ there so_far c.loop-k-test.true (rw c.at16.ensures at missed))
+      | then-is_due+else-the-hi w ↦
+          let found = sym c.is_due.ensures ∙ w.if-is_due.true in
+          rw w.the-is (seen_first _ _ _ _ _ _ there so_far c.loop-k-test.true w.if-the-hi.false (rw c.at16.ensures at found))
+      | else-is_due w ↦
+          let missed = sym c.is_due.ensures ∙ w.if-is_due.false in
+          rw w.the-is (seen_not _ _ _ _ _ _ there so_far c.loop-k-test.true (rw c.at16.ensures at missed))
     ]
 
 pub returns-then-the-hi-2 : goal.returns-then-the-hi-2

@@ -1,7 +1,6 @@
 -- `placed_at` meets its contract: one placement more, and one build more at the last place. Assumes nothing.
 use mathlib.Core.Path.{refl}
 use native.Mathlib.Omega.{arith}
-use borrow.Author.Rules.{rules}
 use Rattle.span_memory.proofs.tally.placed_at.Goals as goal
 
 pub returns-then-i-m : goal.returns-then-i-m

@@ -1,7 +1,6 @@
 -- `skipped` meets its contract, by its one test. Assumes nothing.
 use mathlib.Core.Path.{refl}
 use native.Mathlib.Omega.{arith}
-use borrow.Author.Rules.{rules}
 use Rattle.span_memory.proofs.tally.skipped.Goals as goal
 
 pub returns-then-size-rest : goal.returns-then-size-rest
