@@ -1,5 +1,4 @@
 -- `at16` meets its contract: an element fits. Assumes nothing.
-use borrow.Author.Rules.{rules}
 use native.Mathlib.Omega.{arith}
 use Rattle.span_steps.proofs.at16.Goals as goal
 

@@ -1,6 +1,5 @@
 -- `is_due` meets its contract, test by test. Assumes nothing.
 use mathlib.Core.Path.{sym, ◌∙◌}
-use borrow.Author.Rules.{rules}
 use Rattle.span_steps.proofs.StepLaws.{due_elsewhere, due_here}
 use Rattle.span_steps.proofs.is_due.Goals as goal
 

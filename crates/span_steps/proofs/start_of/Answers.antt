@@ -1,5 +1,4 @@
 -- `start_of` meets its contract: an element fits. Assumes nothing.
-use borrow.Author.Rules.{rules}
 use native.Mathlib.Omega.{arith}
 use Rattle.span_steps.proofs.start_of.Goals as goal
 

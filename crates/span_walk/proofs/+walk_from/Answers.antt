@@ -1,12 +1,10 @@
 -- `walk_from` meets its contract, by the laws of `Held` and `RecallLaws`. Assumes nothing.
-use Rattle.std.proofs.Common.{◌≡◌, refl, sym, ap, arith, ◌≤◌, ◌<◌, ℕ, ◌+◌, length, get_or}
-use Rattle.span_memory.specs.Memory.{KeyOrNone}
-use Rattle.span_tables.specs.Prepared.{list_at}
+use Rattle.std.proofs.Common.{◌≡◌, refl, sym, arith, ◌<◌, ℕ, ◌+◌, length, get_or}
 use Rattle.span_walk.specs.declared.Slots.{Slots}
 use Rattle.span_walk.specs.Steps.{between, Opened, Next}
 use Rattle.span_steps.specs.Steps.{no_word}
 use Rattle.span_walk.specs.Going.{Call, Ready}
-use Rattle.span_walk.proofs.Held.{able_at, Looping, OneOn, ready_end, held_spent, held_at, held_end, held_over, held_next, held_start, held_turn}
+use Rattle.span_walk.proofs.Held.{able_at, Looping, ready_end, held_spent, held_at, held_end, held_over, held_next, held_start, held_turn}
 use Rattle.span_walk.proofs.Held.{looping_turn, open_start, open_next, ready_below}
 use Rattle.span_steps.proofs.PlaceLaws.{list_within, list_lent}
 use Rattle.span_walk.proofs.RecallLaws.{recalls_mask, told_went, recalls_stored}

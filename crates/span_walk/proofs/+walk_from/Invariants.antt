@@ -1,9 +1,7 @@
 -- `walk_from` meets its contract, by the number of entries that are not placed, which falls with each placement. The loop keeps `Looping`:
 -- the marks are as at the call, and for every reader of the definition the run has come so far; where the walk below is to stand
 -- (`OneOn`); and that what the memory says is true (`Recalls`). Assumes nothing.
-use Rattle.std.proofs.Common.{◌-◌, ℕ, length}
-use Rattle.span_memory.specs.declared.tally.Tally.{Tally}
-use Rattle.span_walk.specs.declared.Walking.{Walking}
+use Rattle.std.proofs.Common.{◌-◌, length}
 use Rattle.span_steps.specs.Steps.{walk_tables}
 use Rattle.span_walk.specs.Going.{noted, calling}
 use Rattle.span_walk.specs.Recalling.{Recalls}

@@ -1,10 +1,6 @@
 -- `due` meets its contract: the loop keeps that of the slots before k at most one is due (`Seen`), and hi − k falls. Assumes nothing.
-use Prim.Native.Nat.{◌-◌, ◌<◌}
-use mathlib.Core.Path.{sym, ◌∙◌}
-use mathlib.Core.Logic.{⊎_elim}
-use native.Mathlib.Omega.{arith}
-use lib.ListN.{length, get_or}
-use Rattle.span_walk.proofs.StepLaws.{Seen, seen_none, seen_not, seen_first, seen_second, seen_one, seen_all}
+use Prim.Native.Nat.{◌-◌}
+use Rattle.span_walk.proofs.StepLaws.{Seen}
 use Rattle.span_walk.proofs.due.Given as goal
 
 abbrev pub invariant-loop-k : goal.invariant-loop-k

@@ -1,5 +1,4 @@
 -- `keep_word` meets its contract, by its one test. Assumes nothing.
-use borrow.Author.Rules.{rules}
 use borrow.Author.Tests.{eq-eqb, ne_eqb}
 use Rattle.span_walk.proofs.keep_word.Goals as goal
 

@@ -1,10 +1,6 @@
 -- `next` meets its contract: the loop keeps that nothing is tried from `from` up to k (`Skipped`), and hi − k falls. Assumes nothing.
-use Prim.Native.Nat.{◌-◌, ◌<◌}
-use mathlib.Core.Path.{sym, ◌∙◌}
-use native.Mathlib.Omega.{arith}
-use lib.ListN.{length, get_or}
-use borrow.Author.Rules.{rules}
-use Rattle.span_walk.proofs.StepLaws.{Skipped, skipped_none, skipped_more, skipped_found, skipped_all}
+use Prim.Native.Nat.{◌-◌}
+use Rattle.span_walk.proofs.StepLaws.{Skipped}
 use Rattle.span_walk.proofs.next.Given as goal
 
 abbrev pub invariant-loop-k : goal.invariant-loop-k
