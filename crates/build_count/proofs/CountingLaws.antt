@@ -106,3 +106,8 @@ counts_one {form = form} c d = c.answer ∙ ap form (counted_one c.says d.says) 
 pub counts_as : {R : Type 0} (by : Number → R) {Says : Answer Power → Type 0} {q : Number} {r : R} → Counts number_of Says q → r ≡ by q
     → Counts (λ a. by (number_of a)) Says r
 counts_as by c e = record { said = c.said; says = c.says; answer = e ∙ ap by c.answer }
+
+-- ---- the answer on a span card
+
+pub span_answered : {kind l : ℕ} {es : List Slot} → kind ≡ span → ByKind kind l es (is.Refused (record { number = Kind; place = 0 }))
+span_answered e = on_spans e refl

@@ -35,6 +35,7 @@ fn number_by(p: FreeChoices) -> Number
 }
 
 // The number of builds of lists that hold.
+#[tactic(auto, using(crate::proofs::CountingLaws::span_answered))]
 fn count_from(f: Format, words: &[u32], ones: &[u16], twos: &[u16]) -> Number
     requires { ListsHold most_entries f words.now ones.now twos.now }
     ensures { ByKind f.kind f.l (entries_in words.now ones.now twos.now) result }

