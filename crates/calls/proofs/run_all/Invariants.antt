@@ -1,6 +1,5 @@
 -- `calls::run_all` is safe and ends: what falls is the number of turns that are left. Assumes nothing.
 use Prim.Native.Nat.{◌≤◌}
-use borrow.Author.Rules.{rules}
 use Rattle.calls.proofs.run_all.Given as goal
 
 abbrev pub invariant-loop-turns : goal.invariant-loop-turns

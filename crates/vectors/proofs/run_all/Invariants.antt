@@ -1,6 +1,5 @@
 -- `vectors::run_all` is safe and ends. The invariant: the card is the first n bytes of its buffer. What falls is the number of turns that
 -- are left. Assumes nothing.
-use borrow.Author.Rules.{rules}
 use Prim.Native.Nat.{◌≤◌}
 use mathlib.Core.Path.{◌≡◌}
 use lib.ListN.{length}

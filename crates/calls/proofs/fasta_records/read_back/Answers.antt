@@ -1,11 +1,7 @@
 -- `calls::fasta_records::read_back` is safe: the record is a part of what is lent. Assumes nothing.
 use native.Mathlib.Omega.{arith}
 use lib.ListN.{length-take}
-use borrow.Author.Rules.{rules}
 use Rattle.calls.proofs.fasta_records.read_back.Goals as goal
 
 pub slice_bounds-read-end : goal.slice_bounds-read-end
-slice_bounds-read-end c = simp length-take (omega arith)
-
-slice-aggregate-text : tie.Need-slice-aggregate-text
-slice-aggregate-text c = search rules
+slice_bounds-read-end g c = simp length-take (omega arith)

@@ -1,11 +1,10 @@
 -- `calls::listing::of_list` is safe: the list and the output are each a part of an array. Assumes nothing.
 use native.Mathlib.Omega.{arith}
 use lib.ListN.{length-take}
-use borrow.Author.Rules.{rules}
 use Rattle.calls.proofs.listing.of_list.Goals as goal
 
 pub slice_bounds-import_told-end : goal.slice_bounds-import_told-end
-slice_bounds-import_told-end c = simp length-take (omega arith)
+slice_bounds-import_told-end g c = simp length-take (omega arith)
 
 pub slice_bounds-import_told-end-2 : goal.slice_bounds-import_told-end-2
-slice_bounds-import_told-end-2 c = simp length-take (omega arith)
+slice_bounds-import_told-end-2 g c = simp length-take (omega arith)

@@ -2,17 +2,16 @@
 use native.Mathlib.Omega.{arith}
 use lib.ListN.{length-take}
 use borrow.Author.Tests.{not-false}
-use borrow.Author.Rules.{rules}
 use Rattle.calls.proofs.settle.of_lists.Goals as goal
 
 -- the lists are few
 abbrev few-lists : goal.After-out-1 → goal.Else-not-are_few
-few-lists c = c.before.before.before
+few-lists g c = c.before.before.before
 
 pub slice_bounds-tell_lists-end : goal.slice_bounds-tell_lists-end
-slice_bounds-tell_lists-end c = simp length-take (omega arith)
+slice_bounds-tell_lists-end g c = simp length-take (omega arith)
 
 pub tell_lists-requires : goal.tell_lists-requires
-tell_lists-requires c =
+tell_lists-requires g c =
     let at = few-lists c in
-    let asked = at.are_few in asked.ensures.0 (not-false asked.result at.if-not-are_few.left)
+    let asked = at.are_few in asked.ensures.few_if_true (not-false asked.result at.if-not-are_few.left)

@@ -1,14 +1,13 @@
 -- `calls::settle::tell_lists` is safe: each list is a part of its array. Assumes nothing.
 use native.Mathlib.Omega.{arith}
 use lib.ListN.{length-take}
-use borrow.Author.Rules.{rules}
 use Rattle.calls.proofs.settle.tell_lists.Goals as goal
 
 pub slice_bounds-settle_lists-end : goal.slice_bounds-settle_lists-end
-slice_bounds-settle_lists-end c = simp length-take (omega arith)
+slice_bounds-settle_lists-end g c = simp length-take (omega arith)
 
 pub slice_bounds-settle_lists-end-2 : goal.slice_bounds-settle_lists-end-2
-slice_bounds-settle_lists-end-2 c = simp length-take (omega arith)
+slice_bounds-settle_lists-end-2 g c = simp length-take (omega arith)
 
 pub slice_bounds-settle_lists-end-3 : goal.slice_bounds-settle_lists-end-3
-slice_bounds-settle_lists-end-3 c = simp length-take (omega arith)
+slice_bounds-settle_lists-end-3 g c = simp length-take (omega arith)
