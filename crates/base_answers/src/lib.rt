@@ -1,4 +1,5 @@
 // What an operation that tests its input answers with, and the numbers of the refusals.
+#![tactic(auto)]
 
 // A refusal: which rule is broken, and where.
 #[derive(Clone, Copy)]
