@@ -1,8 +1,6 @@
 -- `crowded` meets its contract: the loop keeps that no place before i is crowded (`Uncrowded`). What falls is how many are left. Assumes
 -- nothing.
-use Prim.Native.Nat.{◌-◌}
 use native.Mathlib.Omega.{arith}
-use Rattle.span_narrow.specs.Settled.{Uncrowded}
 use Rattle.span_narrow.proofs.SettleLaws.{crowding_found, uncrowded_none, uncrowded_more, crowding_none}
 use Rattle.span_narrow.proofs.crowded.Goals as goal
 

@@ -4,7 +4,6 @@ use Prim.Native.Nat.{◌≤◌}
 use native.Mathlib.Omega.{arith}
 use lib.ListN.{length}
 use lib.Seq.{length-take-le}
-use borrow.Author.Rules.{rules}
 use Rattle.card_entries.specs.Bounds.{most_entries}
 use Rattle.card_entries.proofs.HoldLaws.{few_entries}
 use Rattle.span_narrow.proofs.PlanLaws.{first_places_told, told_planned}
@@ -13,7 +12,7 @@ use Rattle.span_narrow.proofs.settle.Goals as goal
 
 pub prepare-requires : goal.prepare-requires
 prepare-requires c =
-        let most : length c.args.words.now ≤ most_entries = few_entries c.requires.span_lists in
+    let most : length c.args.words.now ≤ most_entries = few_entries c.requires.span_lists in
     record { span_lists = c.requires.span_lists; table_room = record { places = omega (arith, most); in_slots = omega (arith, most) } }
 
 pub returns-then-crowded : goal.returns-then-crowded
@@ -23,30 +22,30 @@ returns-then-crowded c =
 pub slice_bounds-marks-end : goal.slice_bounds-marks-end
 slice_bounds-marks-end c =
     let few : length c.args.words.now ≤ most_entries =
-      few_entries c.requires.span_lists in
+    few_entries c.requires.span_lists in
     omega (arith, few)
 
 pub slice_bounds-settle_laid-end-3 : goal.slice_bounds-settle_laid-end-3
 slice_bounds-settle_laid-end-3 c =
     let few : length c.args.words.now ≤ most_entries =
-      few_entries c.requires.span_lists in
+    few_entries c.requires.span_lists in
     sym (length-take-le _ _ few)
 
 pub slice_bounds-settle_laid-end-6 : goal.slice_bounds-settle_laid-end-6
 slice_bounds-settle_laid-end-6 c =
     let found-room : length c.args.words.now ≤ length c.args.found.now =
-      c.requires.words_in_bounds in
+    c.requires.words_in_bounds in
     sym (length-take-le _ _ found-room)
 
 pub settle_laid-requires : goal.settle_laid-requires
 settle_laid-requires c =
     let few : length c.args.words.now ≤ most_entries =
-      few_entries c.requires.span_lists in
+    few_entries c.requires.span_lists in
     let found-room : length c.args.words.now ≤ length c.args.found.now =
-      c.requires.words_in_bounds in
+    c.requires.words_in_bounds in
     record { planned = told_planned c.requires.span_lists c.prepare.ensures (c.crowded.ensures.no_place c.if-crowded.false).few; marks_len = (length-take-le _ _ few, omega (arith, few), length-take-le _ _ found-room) }
 
 pub returns : goal.returns
 returns c =
-            let told = first_places_told c.requires.span_lists c.prepare.ensures in
+    let told = first_places_told c.requires.span_lists c.prepare.ensures in
     settles_told _ _ told _ _ c.settle_laid.ensures.first_len c.settle_laid.ensures.settles_lists

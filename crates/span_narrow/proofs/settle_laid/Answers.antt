@@ -3,7 +3,6 @@
 use mathlib.Core.Path.{refl, ap}
 use mathlib.Core.Bool.{not}
 use native.Mathlib.Omega.{arith}
-use borrow.Author.Rules.{rules}
 use Rattle.base_lists.proofs.TestLaws.{failed, passed}
 use Rattle.span_narrow.proofs.SettleLaws.{known_first, none_settles, some_readable, sole_settles, several_settles}
 use Rattle.span_narrow.proofs.settle_laid.Goals as goal

@@ -1,5 +1,4 @@
 -- `cell_of` meets its contract: so few marks are a number below the cells of a place (`cell_is`). Assumes nothing.
-use borrow.Author.Rules.{rules}
 use Rattle.span_narrow.proofs.StateLaws.{cell_is}
 use Rattle.span_narrow.proofs.chances.cell_of.Goals as goal
 

@@ -1,14 +1,9 @@
 -- `chances` meets its contract: the loop tries one entry more (`Trials`), and in the end has the chances (`trials_done`). What falls is how
 -- many are left. Assumes nothing.
-use mathlib.Core.Path.{◌≡◌, refl, sym, ap, ◌∙◌}
-use Prim.Native.Nat.{◌+◌, ◌-◌, ◌≤◌, ◌<◌}
-use native.Mathlib.Omega.{arith}
-use lib.ListN.{length, get_or}
-use Rattle.span_steps.proofs.PlaceLaws.{list_rises, list_ends, list_lent, list_below}
+use mathlib.Core.Path.{◌≡◌}
+use Prim.Native.Nat.{◌-◌}
 use Rattle.span_narrow.specs.Plan.{plan_of}
-use Rattle.span_narrow.specs.States.{dues_in}
 use Rattle.span_narrow.specs.Stepping.{Trials}
-use Rattle.span_narrow.proofs.TrialLaws.{trials_none, trying_at, more_at, trials_done}
 use Rattle.span_narrow.proofs.chances.chances.Given as goal
 
 abbrev pub invariant-loop-t : goal.invariant-loop-t

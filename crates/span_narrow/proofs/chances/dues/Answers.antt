@@ -1,12 +1,10 @@
 -- `dues` meets its contract: the loop keeps how many are due from k on, and k rises. Assumes nothing.
 use mathlib.Core.Path.{refl, sym, ◌∙◌}
-use mathlib.Core.Logic.{⊎_elim}
-use Prim.Native.Nat.{◌-◌, ◌<◌}
+use Prim.Native.Nat.{◌<◌}
 use native.Mathlib.Omega.{arith}
 use lib.ListN.{length, get_or}
-use borrow.Author.Rules.{rules}
 use Rattle.base_lists.proofs.FillingLaws.{get_d_in}
-use Rattle.span_narrow.proofs.StateLaws.{DueSoFar, due_none, due_turn, due_all}
+use Rattle.span_narrow.proofs.StateLaws.{due_none, due_turn, due_all}
 use Rattle.span_narrow.proofs.chances.dues.Goals as goal
 use Rattle.span_narrow.proofs.chances.dues.Goals.{then-is_due, else-is_due}
 
@@ -17,7 +15,7 @@ loop-k-init c =
 pub is_due-requires : goal.is_due-requires
 is_due-requires c =
     let low : get_or c.args.list.now c.loop-k.k 0 < length c.args.twos.now =
-      c.requires.below.each _ (get_d_in _ c.loop-k.k c.loop-k-test.true) in
+    c.requires.below.each _ (get_d_in _ c.loop-k.k c.loop-k-test.true) in
     omega (arith, low, c.at16.ensures, c.requires.marks_len)
 
 pub overflow_add-n : goal.overflow_add-n
@@ -26,10 +24,10 @@ overflow_add-n c =
 
 pub loop-k-preserved : goal.loop-k-preserved
 loop-k-preserved c =
-        let is = rw c.at16.ensures at (sym c.is_due.ensures) in
+    let is = rw c.at16.ensures at (sym c.is_due.ensures) in
     elim c.if-is_due.branch [
-      then-is_due w ↦ rw w.n-is (due_turn _ _ _ _ c.loop-k.invariant c.loop-k-test.true (is ∙ w.if-is_due.true) refl)
-    | else-is_due w ↦ rw w.n-is (due_turn _ _ _ _ c.loop-k.invariant c.loop-k-test.true (is ∙ w.if-is_due.false) (omega arith))
+      | then-is_due w ↦ rw w.n-is (due_turn _ _ _ _ c.loop-k.invariant c.loop-k-test.true (is ∙ w.if-is_due.true) refl)
+      | else-is_due w ↦ rw w.n-is (due_turn _ _ _ _ c.loop-k.invariant c.loop-k-test.true (is ∙ w.if-is_due.false) (omega arith))
     ]
 
 pub returns : goal.returns

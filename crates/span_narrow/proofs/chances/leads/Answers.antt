@@ -3,7 +3,6 @@
 use Prim.Native.Nat.{◌<◌}
 use native.Mathlib.Omega.{arith}
 use lib.ListN.{length, length-set}
-use borrow.Author.Rules.{rules}
 use Rattle.card_entries.proofs.HoldLaws.{few_entries, few_letters, some_letter}
 use Rattle.span_narrow.proofs.PlaceLaws.{tried_here, tried_free}
 use Rattle.span_narrow.proofs.StateLaws.{completes_after, marked_unmarked, leading_known}
@@ -12,9 +11,9 @@ use Rattle.span_narrow.proofs.chances.leads.Goals as goal
 pub bounds-marks-e : goal.bounds-marks-e
 bounds-marks-e c =
     let low : c.args.s.e < length c.args.words.now =
-      (tried_here c.requires.planned c.requires.sides c.requires.inside _ c.requires.tried).0 in
+    (tried_here c.requires.planned c.requires.sides c.requires.inside _ c.requires.tried).0 in
     let has-mark : c.args.s.e < length c.args.marks.now =
-      omega (arith, low, c.requires.sides.marks_all) in
+    omega (arith, low, c.requires.sides.marks_all) in
     has-mark
 
 pub overflow_add-next : goal.overflow_add-next
@@ -24,13 +23,13 @@ overflow_add-next c =
 pub offset_bounds-words-e : goal.offset_bounds-words-e
 offset_bounds-words-e c =
     let low : c.args.s.e < length c.args.words.now =
-      (tried_here c.requires.planned c.requires.sides c.requires.inside _ c.requires.tried).0 in
+    (tried_here c.requires.planned c.requires.sides c.requires.inside _ c.requires.tried).0 in
     omega (arith, low, c.well_formed)
 
 pub bounds-words-e : goal.bounds-words-e
 bounds-words-e c =
     let low : c.args.s.e < length c.args.words.now =
-      (tried_here c.requires.planned c.requires.sides c.requires.inside _ c.requires.tried).0 in
+    (tried_here c.requires.planned c.requires.sides c.requires.inside _ c.requires.tried).0 in
     low
 
 pub tail_of-requires : goal.tail_of-requires
@@ -44,9 +43,9 @@ completes-r-requires c =
 pub bounds-marks-e-2 : goal.bounds-marks-e-2
 bounds-marks-e-2 c =
     let low : c.args.s.e < length c.args.words.now =
-      (tried_here c.requires.planned c.requires.sides c.requires.inside _ c.requires.tried).0 in
+    (tried_here c.requires.planned c.requires.sides c.requires.inside _ c.requires.tried).0 in
     let has-mark : c.args.s.e < length c.args.marks.now =
-      omega (arith, low, c.requires.sides.marks_all) in
+    omega (arith, low, c.requires.sides.marks_all) in
     omega (arith, has-mark, length-set c.args.marks.now c.args.s.e 1)
 
 pub returns : goal.returns

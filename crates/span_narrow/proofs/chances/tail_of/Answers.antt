@@ -1,7 +1,6 @@
 -- `tail_of` meets its contract, by `mask_tail`. Assumes nothing.
 use Prim.Native.Nat.{◌-◌}
 use native.Mathlib.Omega.{arith}
-use borrow.Author.Rules.{rules}
 use Rattle.build_sequence.proofs.LetterLaws.{pow_pos, mask_tail}
 use Rattle.span_narrow.proofs.chances.tail_of.Goals as goal
 

@@ -1,12 +1,10 @@
 -- `choose` meets its contract: the loop keeps who is chosen of the entries from k on (`LookedFrom`), and k falls. Assumes nothing.
 use mathlib.Core.Path.{sym, ◌∙◌}
 use Prim.Native.Nat.{◌-◌, ◌<◌}
-use mathlib.Core.Logic.{⊎_elim}
 use native.Mathlib.Omega.{arith}
 use lib.ListN.{length, get_or}
-use borrow.Author.Rules.{rules}
 use Rattle.base_lists.proofs.FillingLaws.{get_d_in}
-use Rattle.span_narrow.proofs.ChooseLaws.{LookedFrom, looked_none, looked_skip, looked_more, looked_all}
+use Rattle.span_narrow.proofs.ChooseLaws.{looked_none, looked_skip, looked_more, looked_all}
 use Rattle.span_narrow.proofs.digits.choose.Goals as goal
 use Rattle.span_narrow.proofs.digits.choose.Goals.{then-is_picked, else-is_picked}
 
@@ -21,21 +19,21 @@ at16-e-requires c =
 pub offset_bounds-words-e : goal.offset_bounds-words-e
 offset_bounds-words-e c =
     let low : get_or c.args.list.now (c.loop-k.k - 1) 0 < length c.args.words.now =
-      c.requires.each _ (get_d_in _ (c.loop-k.k - 1) (omega (arith, c.loop-k.invariant.within, c.loop-k-test.true))) in
+    c.requires.each _ (get_d_in _ (c.loop-k.k - 1) (omega (arith, c.loop-k.invariant.within, c.loop-k-test.true))) in
     omega (arith, low, c.at16-e.ensures, c.well_formed)
 
 pub bounds-words-e : goal.bounds-words-e
 bounds-words-e c =
     let low : get_or c.args.list.now (c.loop-k.k - 1) 0 < length c.args.words.now =
-      c.requires.each _ (get_d_in _ (c.loop-k.k - 1) (omega (arith, c.loop-k.invariant.within, c.loop-k-test.true))) in
+    c.requires.each _ (get_d_in _ (c.loop-k.k - 1) (omega (arith, c.loop-k.invariant.within, c.loop-k-test.true))) in
     omega (arith, low, c.at16-e.ensures)
 
 pub loop-k-preserved : goal.loop-k-preserved
 loop-k-preserved c =
-        let is = rw c.at16-e.ensures at (sym c.is_picked.ensures) in
+    let is = rw c.at16-e.ensures at (sym c.is_picked.ensures) in
     elim c.if-is_picked.branch [
-      then-is_picked w ↦ rw w.at-is (rw w.more-is (looked_more _ _ _ _ _ c.loop-k.invariant c.loop-k-test.true (is ∙ w.if-is_picked.true)))
-    | else-is_picked w ↦ rw w.at-is (rw w.more-is (looked_skip _ _ _ _ _ c.loop-k.invariant c.loop-k-test.true (is ∙ w.if-is_picked.false)))
+      | then-is_picked w ↦ rw w.at-is (rw w.more-is (looked_more _ _ _ _ _ c.loop-k.invariant c.loop-k-test.true (is ∙ w.if-is_picked.true)))
+      | else-is_picked w ↦ rw w.at-is (rw w.more-is (looked_skip _ _ _ _ _ c.loop-k.invariant c.loop-k-test.true (is ∙ w.if-is_picked.false)))
     ]
 
 pub returns : goal.returns

@@ -1,12 +1,5 @@
 -- `choose` meets its contract: the loop keeps who is chosen of the entries from k on (`LookedFrom`), and k falls. Assumes nothing.
-use mathlib.Core.Path.{sym, ◌∙◌}
-use Prim.Native.Nat.{◌-◌, ◌<◌}
-use mathlib.Core.Logic.{⊎_elim}
-use native.Mathlib.Omega.{arith}
-use lib.ListN.{length, get_or}
-use borrow.Author.Rules.{rules}
-use Rattle.base_lists.proofs.FillingLaws.{get_d_in}
-use Rattle.span_narrow.proofs.ChooseLaws.{LookedFrom, looked_none, looked_skip, looked_more, looked_all}
+use Rattle.span_narrow.proofs.ChooseLaws.{LookedFrom}
 use Rattle.span_narrow.proofs.digits.choose.Given as goal
 
 abbrev pub invariant-loop-k : goal.invariant-loop-k

@@ -1,10 +1,7 @@
 -- `fill` meets its contract: one number more stands in each turn (`filling_turn`). What falls is how many are left. Assumes nothing.
-use mathlib.Core.Path.{refl}
 use Prim.Native.Nat.{◌-◌}
-use native.Mathlib.Omega.{arith}
 use lib.ListN.{length}
-use borrow.Author.Rules.{rules}
-use Rattle.base_lists.proofs.FillingLaws.{Filling, filling_none, filling_turn, filling_all}
+use Rattle.base_lists.proofs.FillingLaws.{Filling}
 use Rattle.span_narrow.proofs.digits.fill.Given as goal
 
 abbrev pub invariant-loop-k : goal.invariant-loop-k

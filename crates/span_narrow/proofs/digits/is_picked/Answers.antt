@@ -1,6 +1,5 @@
 -- `is_picked` meets its contract, by its one test. Assumes nothing.
 use borrow.Author.Tests.{eq-eqb, ne_eqb}
-use borrow.Author.Rules.{rules}
 use Rattle.span_narrow.proofs.digits.is_picked.Goals as goal
 
 pub returns-then-c-eq1 : goal.returns-then-c-eq1

@@ -1,10 +1,7 @@
 -- `mark_list` meets its contract: one entry more is marked in each turn (`Marking`). What falls is how many are left. Assumes nothing.
-use Prim.Native.Nat.{◌-◌, ◌<◌}
-use native.Mathlib.Omega.{arith}
-use lib.ListN.{length, get_or}
-use borrow.Author.Rules.{rules}
-use Rattle.base_lists.proofs.FillingLaws.{get_d_in}
-use Rattle.span_narrow.proofs.MarkLaws.{Marking, marking_none, marking_turn, marking_all}
+use Prim.Native.Nat.{◌-◌}
+use lib.ListN.{length}
+use Rattle.span_narrow.proofs.MarkLaws.{Marking}
 use Rattle.span_narrow.proofs.digits.mark_list.Given as goal
 
 abbrev pub invariant-loop-k : goal.invariant-loop-k

@@ -1,13 +1,8 @@
 -- `keep` meets its contract: it begins with the first state alone, and one place more is seen in each turn. Assumes nothing.
-use mathlib.Core.Path.{◌≡◌, refl}
-use Prim.Native.Nat.{◌+◌, ◌-◌, ◌*◌, ◌<◌}
+use mathlib.Core.Path.{refl}
 use native.Mathlib.Omega.{arith}
-use lib.ListN.{length, length-set}
-use borrow.Author.Rules.{rules}
+use lib.ListN.{length-set}
 use Rattle.card_entries.proofs.HoldLaws.{few_entries, some_entry}
-use Rattle.span_narrow.specs.Plan.{plan_of}
-use Rattle.span_narrow.specs.States.{cells_over, Sides}
-use Rattle.span_narrow.specs.Keeping.{KeptBelow}
 use Rattle.span_narrow.proofs.SideLaws.{sides_left}
 use Rattle.span_narrow.proofs.ReachLaws.{below_none, opening, below_half}
 use Rattle.span_narrow.proofs.keeping.keep.Goals as goal
@@ -17,13 +12,12 @@ bounds-table-0 c =
     omega (arith, c.fill-2.ensures.all, c.requires.marks_len.1, some_entry c.requires.planned.card)
 
 pub loop-i-init : goal.loop-i-init
-loop-i-init c =
-    (
-      (sides_left c.requires.marks_len.0 c.fill.ensures, below_none c.requires.planned c.requires.marks_len.1 c.fill-2.ensures),
-      omega (arith, some_entry c.requires.planned.card),
-      refl,
-      refl,
-    )
+loop-i-init c = (
+  (sides_left c.requires.marks_len.0 c.fill.ensures, below_none c.requires.planned c.requires.marks_len.1 c.fill-2.ensures),
+  omega (arith, some_entry c.requires.planned.card),
+  refl,
+  refl,
+)
 
 pub overflow_add-i : goal.overflow_add-i
 overflow_add-i c =
@@ -31,7 +25,7 @@ overflow_add-i c =
 
 pub keep_place-requires : goal.keep_place-requires
 keep_place-requires c =
-        let inv = c.loop-i.invariant in
+    let inv = c.loop-i.invariant in
     opening c.requires.planned c.loop-i-test.true inv.0.0 inv.0.1
 
 pub overflow_add-i-in-loop-i : goal.overflow_add-i-in-loop-i

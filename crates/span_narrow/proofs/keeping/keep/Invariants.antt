@@ -1,15 +1,10 @@
 -- `keep` meets its contract: it begins with the first state alone, and one place more is seen in each turn. Assumes nothing.
-use mathlib.Core.Path.{◌≡◌, refl}
+use mathlib.Core.Path.{◌≡◌}
 use Prim.Native.Nat.{◌+◌, ◌-◌, ◌*◌, ◌<◌}
-use native.Mathlib.Omega.{arith}
-use lib.ListN.{length, length-set}
-use borrow.Author.Rules.{rules}
-use Rattle.card_entries.proofs.HoldLaws.{few_entries, some_entry}
+use lib.ListN.{length}
 use Rattle.span_narrow.specs.Plan.{plan_of}
 use Rattle.span_narrow.specs.States.{cells_over, Sides}
 use Rattle.span_narrow.specs.Keeping.{KeptBelow}
-use Rattle.span_narrow.proofs.SideLaws.{sides_left}
-use Rattle.span_narrow.proofs.ReachLaws.{below_none, opening, below_half}
 use Rattle.span_narrow.proofs.keeping.keep.Given as goal
 
 abbrev pub invariant-loop-i : goal.invariant-loop-i

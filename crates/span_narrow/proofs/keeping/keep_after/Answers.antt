@@ -3,7 +3,6 @@ use mathlib.Core.Path.{◌≡◌, ap, ◌∙◌}
 use Prim.Native.Nat.{◌+◌, ◌≤◌}
 use native.Mathlib.Omega.{arith}
 use lib.ListN.{length, get_or, set, length-set}
-use borrow.Author.Rules.{rules}
 use Rattle.span_tables.specs.Prepared.{list_at}
 use Rattle.span_narrow.specs.States.{cell_of}
 use Rattle.span_narrow.proofs.StateLaws.{marked_unmarked}
@@ -29,51 +28,51 @@ bounds-marks-e c =
 pub offset_bounds-slots-lo : goal.offset_bounds-slots-lo
 offset_bounds-slots-lo c =
     let lo_is : c.start_of-lo.result ≡ get_or c.args.starts.now c.args.i 0 =
-      c.start_of-lo.ensures in
+    c.start_of-lo.ensures in
     let end_is : c.start_of-end.result ≡ get_or c.args.starts.now (c.args.i + 1) 0 =
-      c.start_of-end.ensures in
+    c.start_of-end.ensures in
     let rises : c.start_of-lo.result ≤ c.start_of-end.result =
-      there_rises c.requires.list_there lo_is end_is in
+    there_rises c.requires.list_there lo_is end_is in
     let ends : c.start_of-end.result ≤ length c.args.slots.now =
-      there_ends c.requires.list_there lo_is end_is in
+    there_ends c.requires.list_there lo_is end_is in
     omega (arith, rises, ends, c.well_formed)
 
 pub slice_bounds-cell_of-count : goal.slice_bounds-cell_of-count
 slice_bounds-cell_of-count c =
     let lo_is : c.start_of-lo.result ≡ get_or c.args.starts.now c.args.i 0 =
-      c.start_of-lo.ensures in
+    c.start_of-lo.ensures in
     let end_is : c.start_of-end.result ≡ get_or c.args.starts.now (c.args.i + 1) 0 =
-      c.start_of-end.ensures in
+    c.start_of-end.ensures in
     let rises : c.start_of-lo.result ≤ c.start_of-end.result =
-      there_rises c.requires.list_there lo_is end_is in
+    there_rises c.requires.list_there lo_is end_is in
     rises
 
 pub slice_bounds-cell_of-start : goal.slice_bounds-cell_of-start
 slice_bounds-cell_of-start c =
     let lo_is : c.start_of-lo.result ≡ get_or c.args.starts.now c.args.i 0 =
-      c.start_of-lo.ensures in
+    c.start_of-lo.ensures in
     let end_is : c.start_of-end.result ≡ get_or c.args.starts.now (c.args.i + 1) 0 =
-      c.start_of-end.ensures in
+    c.start_of-end.ensures in
     let rises : c.start_of-lo.result ≤ c.start_of-end.result =
-      there_rises c.requires.list_there lo_is end_is in
+    there_rises c.requires.list_there lo_is end_is in
     rises
 
 pub slice_bounds-cell_of-end : goal.slice_bounds-cell_of-end
 slice_bounds-cell_of-end c =
     let lo_is : c.start_of-lo.result ≡ get_or c.args.starts.now c.args.i 0 =
-      c.start_of-lo.ensures in
+    c.start_of-lo.ensures in
     let end_is : c.start_of-end.result ≡ get_or c.args.starts.now (c.args.i + 1) 0 =
-      c.start_of-end.ensures in
+    c.start_of-end.ensures in
     let ends : c.start_of-end.result ≤ length c.args.slots.now =
-      there_ends c.requires.list_there lo_is end_is in
+    there_ends c.requires.list_there lo_is end_is in
     ends
 
 pub cell_of-cell-requires : goal.cell_of-cell-requires
 cell_of-cell-requires c =
     let lo_is : c.start_of-lo.result ≡ get_or c.args.starts.now c.args.i 0 =
-      c.start_of-lo.ensures in
+    c.start_of-lo.ensures in
     let end_is : c.start_of-end.result ≡ get_or c.args.starts.now (c.args.i + 1) 0 =
-      c.start_of-end.ensures in
+    c.start_of-end.ensures in
     record { below = there_below c.requires.list_there lo_is end_is (length-set c.args.marks.now c.args.e 1); list_len_bound = (there_few c.requires.list_there lo_is end_is, c.requires.list_there.numbered) }
 
 pub bounds-marks-e-2 : goal.bounds-marks-e-2
@@ -87,10 +86,10 @@ bounds-table-cell c =
 pub returns : goal.returns
 returns c =
     let lo_is : c.start_of-lo.result ≡ get_or c.args.starts.now c.args.i 0 =
-      c.start_of-lo.ensures in
+    c.start_of-lo.ensures in
     let end_is : c.start_of-end.result ≡ get_or c.args.starts.now (c.args.i + 1) 0 =
-      c.start_of-end.ensures in
+    c.start_of-end.ensures in
     let its-cell : c.cell_of-cell.result ≡ cell_of (list_at c.args.starts.now c.args.slots.now c.args.i) (set c.args.marks.now c.args.e 1) c.args.i =
-      c.cell_of-cell.ensures.is ∙ ap (λ js. cell_of js (set c.args.marks.now c.args.e 1) c.args.i)
+    c.cell_of-cell.ensures.is ∙ ap (λ js. cell_of js (set c.args.marks.now c.args.e 1) c.args.i)
     (there_lent c.requires.list_there lo_is end_is) in
     record { table_after = ap (λ n. set c.args.table.now n 1) its-cell; marks_unchanged = marked_unmarked _ _ c.requires.e_in_bounds.1 }

@@ -1,12 +1,8 @@
 -- `keep_followers` meets its contract: one entry more is tried in each turn (`Visiting`). What falls is how many are left. Assumes nothing.
-use mathlib.Core.Path.{◌≡◌, refl, sym, ap, ◌∙◌}
-use Prim.Native.Nat.{◌+◌, ◌-◌, ◌≤◌, ◌<◌}
-use native.Mathlib.Omega.{arith}
-use lib.ListN.{length, get_or}
+use mathlib.Core.Path.{◌≡◌}
+use Prim.Native.Nat.{◌-◌}
 use Rattle.span_narrow.specs.Plan.{plan_of}
-use Rattle.span_narrow.specs.States.{dues_in}
-use Rattle.span_narrow.proofs.FollowLaws.{there_rises, there_ends, there_lent, there_below}
-use Rattle.span_narrow.proofs.FollowLaws.{Visiting, visiting_none, visiting_can, visiting_turn, visiting_all, kept_same}
+use Rattle.span_narrow.proofs.FollowLaws.{Visiting}
 use Rattle.span_narrow.proofs.keeping.keep_followers.Given as goal
 
 abbrev pub invariant-loop-k : goal.invariant-loop-k

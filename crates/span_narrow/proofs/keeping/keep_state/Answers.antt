@@ -5,7 +5,6 @@ use Prim.Native.Nat.{◌+◌, ◌-◌, ◌^◌, ◌≤◌, ◌<◌}
 use native.Mathlib.Omega.{arith}
 use lib.ListN.{length, get_or, take, drop}
 use lib.Pow.{pow_mono}
-use borrow.Author.Rules.{rules}
 use Rattle.card_entries.proofs.HoldLaws.{few_entries}
 use Rattle.span_layers.specs.Narrow.{most_over}
 use Rattle.span_tables.specs.Prepared.{list_at}
@@ -22,15 +21,15 @@ use Rattle.span_narrow.proofs.keeping.keep_state.Goals as goal
 pub overflow_mul-i : goal.overflow_mul-i
 overflow_mul-i c =
     let in-card : c.args.s.i < length c.args.words.now =
-      omega (arith, c.requires.opening.inside) in
+    omega (arith, c.requires.opening.inside) in
     omega (arith, in-card, few_entries c.requires.opening.planned.card)
 
 pub overflow_add-i : goal.overflow_add-i
 overflow_add-i c =
     let in-card : c.args.s.i < length c.args.words.now =
-      omega (arith, c.requires.opening.inside) in
+    omega (arith, c.requires.opening.inside) in
     let few : c.args.s.b < cells_over =
-      let low : 2 ^ (get_or c.args.starts.now (c.args.s.i + 1) 0 - get_or c.args.starts.now c.args.s.i 0) ≤ 2 ^ most_over =
+    let low : 2 ^ (get_or c.args.starts.now (c.args.s.i + 1) 0 - get_or c.args.starts.now c.args.s.i 0) ≤ 2 ^ most_over =
     pow_mono {j = most_over} (list_few c.requires.opening.planned in-card refl refl) in
     omega (arith, c.requires.b_bound) in
     omega (arith, in-card, few_entries c.requires.opening.planned.card, few)
@@ -38,16 +37,16 @@ overflow_add-i c =
 pub bounds-table-i : goal.bounds-table-i
 bounds-table-i c =
     let in-card : c.args.s.i < length c.args.words.now =
-      omega (arith, c.requires.opening.inside) in
+    omega (arith, c.requires.opening.inside) in
     let few : c.args.s.b < cells_over =
-      let low : 2 ^ (get_or c.args.starts.now (c.args.s.i + 1) 0 - get_or c.args.starts.now c.args.s.i 0) ≤ 2 ^ most_over =
+    let low : 2 ^ (get_or c.args.starts.now (c.args.s.i + 1) 0 - get_or c.args.starts.now c.args.s.i 0) ≤ 2 ^ most_over =
     pow_mono {j = most_over} (list_few c.requires.opening.planned in-card refl refl) in
     omega (arith, c.requires.b_bound) in
     omega (arith, few, in-card, c.requires.opening.upto.room)
 
 pub returns-then-table-i-eq0 : goal.returns-then-table-i-eq0
 returns-then-table-i-eq0 c =
-        record {
+    record {
       planned = c.requires.opening.planned;
       inside = c.requires.opening.inside;
       sides = c.requires.opening.sides;
@@ -57,121 +56,121 @@ returns-then-table-i-eq0 c =
 pub start_of-lo-requires : goal.start_of-lo-requires
 start_of-lo-requires c =
     let in-card : c.args.s.i < length c.args.words.now =
-      omega (arith, c.requires.opening.inside) in
+    omega (arith, c.requires.opening.inside) in
     omega (arith, in-card, c.requires.opening.planned.prepared.starts_all)
 
 pub overflow_add-i-2 : goal.overflow_add-i-2
 overflow_add-i-2 c =
     let in-card : c.args.s.i < length c.args.words.now =
-      omega (arith, c.requires.opening.inside) in
+    omega (arith, c.requires.opening.inside) in
     omega (arith, in-card, few_entries c.requires.opening.planned.card)
 
 pub start_of-end-requires : goal.start_of-end-requires
 start_of-end-requires c =
     let in-card : c.args.s.i < length c.args.words.now =
-      omega (arith, c.requires.opening.inside) in
+    omega (arith, c.requires.opening.inside) in
     omega (arith, in-card, c.requires.opening.planned.prepared.starts_all)
 
 pub offset_bounds-slots-lo : goal.offset_bounds-slots-lo
 offset_bounds-slots-lo c =
     let in-card : c.args.s.i < length c.args.words.now =
-      omega (arith, c.requires.opening.inside) in
+    omega (arith, c.requires.opening.inside) in
     let lo_is : c.start_of-lo.result ≡ get_or c.args.starts.now c.args.s.i 0 =
-      c.start_of-lo.ensures in
+    c.start_of-lo.ensures in
     let end_is : c.start_of-end.result ≡ get_or c.args.starts.now (c.args.s.i + 1) 0 =
-      c.start_of-end.ensures in
+    c.start_of-end.ensures in
     let rises : c.start_of-lo.result ≤ c.start_of-end.result =
-      list_rises c.requires.opening.planned.prepared in-card lo_is end_is in
+    list_rises c.requires.opening.planned.prepared in-card lo_is end_is in
     let ends : c.start_of-end.result ≤ length c.args.slots.now =
-      list_ends c.requires.opening.planned.prepared in-card lo_is end_is in
+    list_ends c.requires.opening.planned.prepared in-card lo_is end_is in
     omega (arith, rises, ends, c.well_formed)
 
 pub slice_bounds-spread-count : goal.slice_bounds-spread-count
 slice_bounds-spread-count c =
     let in-card : c.args.s.i < length c.args.words.now =
-      omega (arith, c.requires.opening.inside) in
+    omega (arith, c.requires.opening.inside) in
     let lo_is : c.start_of-lo.result ≡ get_or c.args.starts.now c.args.s.i 0 =
-      c.start_of-lo.ensures in
+    c.start_of-lo.ensures in
     let end_is : c.start_of-end.result ≡ get_or c.args.starts.now (c.args.s.i + 1) 0 =
-      c.start_of-end.ensures in
+    c.start_of-end.ensures in
     let rises : c.start_of-lo.result ≤ c.start_of-end.result =
-      list_rises c.requires.opening.planned.prepared in-card lo_is end_is in
+    list_rises c.requires.opening.planned.prepared in-card lo_is end_is in
     rises
 
 pub slice_bounds-spread-start : goal.slice_bounds-spread-start
 slice_bounds-spread-start c =
     let in-card : c.args.s.i < length c.args.words.now =
-      omega (arith, c.requires.opening.inside) in
+    omega (arith, c.requires.opening.inside) in
     let lo_is : c.start_of-lo.result ≡ get_or c.args.starts.now c.args.s.i 0 =
-      c.start_of-lo.ensures in
+    c.start_of-lo.ensures in
     let end_is : c.start_of-end.result ≡ get_or c.args.starts.now (c.args.s.i + 1) 0 =
-      c.start_of-end.ensures in
+    c.start_of-end.ensures in
     let rises : c.start_of-lo.result ≤ c.start_of-end.result =
-      list_rises c.requires.opening.planned.prepared in-card lo_is end_is in
+    list_rises c.requires.opening.planned.prepared in-card lo_is end_is in
     rises
 
 pub slice_bounds-spread-end : goal.slice_bounds-spread-end
 slice_bounds-spread-end c =
     let in-card : c.args.s.i < length c.args.words.now =
-      omega (arith, c.requires.opening.inside) in
+    omega (arith, c.requires.opening.inside) in
     let lo_is : c.start_of-lo.result ≡ get_or c.args.starts.now c.args.s.i 0 =
-      c.start_of-lo.ensures in
+    c.start_of-lo.ensures in
     let end_is : c.start_of-end.result ≡ get_or c.args.starts.now (c.args.s.i + 1) 0 =
-      c.start_of-end.ensures in
+    c.start_of-end.ensures in
     let ends : c.start_of-end.result ≤ length c.args.slots.now =
-      list_ends c.requires.opening.planned.prepared in-card lo_is end_is in
+    list_ends c.requires.opening.planned.prepared in-card lo_is end_is in
     ends
 
 pub spread-requires : goal.spread-requires
 spread-requires c =
     let in-card : c.args.s.i < length c.args.words.now =
-      omega (arith, c.requires.opening.inside) in
+    omega (arith, c.requires.opening.inside) in
     let lo_is : c.start_of-lo.result ≡ get_or c.args.starts.now c.args.s.i 0 =
-      c.start_of-lo.ensures in
+    c.start_of-lo.ensures in
     let end_is : c.start_of-end.result ≡ get_or c.args.starts.now (c.args.s.i + 1) 0 =
-      c.start_of-end.ensures in
+    c.start_of-end.ensures in
     let asked = spread_asks c.requires.opening.planned in-card lo_is end_is c.requires.opening.sides.marks_all (rw (lo_is, end_is) c.requires.b_bound) in
     record { below = asked.0; apart = asked.1.0; b_bound = asked.1.1 }
 
 pub keep_followers-requires : goal.keep_followers-requires
 keep_followers-requires c =
     let in-card : c.args.s.i < length c.args.words.now =
-      omega (arith, c.requires.opening.inside) in
+    omega (arith, c.requires.opening.inside) in
     let lo_is : c.start_of-lo.result ≡ get_or c.args.starts.now c.args.s.i 0 =
-      c.start_of-lo.ensures in
+    c.start_of-lo.ensures in
     let end_is : c.start_of-end.result ≡ get_or c.args.starts.now (c.args.s.i + 1) 0 =
-      c.start_of-end.ensures in
+    c.start_of-end.ensures in
     let lent : take (c.start_of-end.result - c.start_of-lo.result) (drop c.start_of-lo.result c.args.slots.now) ≡ list_at c.args.starts.now c.args.slots.now c.args.s.i =
-      list_lent c.requires.opening.planned.prepared in-card lo_is end_is in
+    list_lent c.requires.opening.planned.prepared in-card lo_is end_is in
     let spread-is : MarkedBy (list_at c.args.starts.now c.args.slots.now c.args.s.i) c.args.marks.now c.args.s.b c.spread.new.marks =
-      rw lent at c.spread.ensures in
+    rw lent at c.spread.ensures in
     let plan : Plan =
-      plan_of c.args.l c.args.words.now c.args.twos.now c.args.starts.now c.args.slots.now in
+    plan_of c.args.l c.args.words.now c.args.twos.now c.args.starts.now c.args.slots.now in
     let spread-sides : Sides plan c.spread.new.marks c.args.s.i (c.args.s.i + 1) =
-      sides_spread c.requires.opening.planned in-card c.requires.opening.sides spread-is in
+    sides_spread c.requires.opening.planned in-card c.requires.opening.sides spread-is in
     keepable c.requires.opening.planned spread-sides.marks_all c.requires.opening.upto.room c.requires.opening.inside
 
 pub returns : goal.returns
 returns c =
     let in-card : c.args.s.i < length c.args.words.now =
-      omega (arith, c.requires.opening.inside) in
+    omega (arith, c.requires.opening.inside) in
     let few : c.args.s.b < cells_over =
-      let low : 2 ^ (get_or c.args.starts.now (c.args.s.i + 1) 0 - get_or c.args.starts.now c.args.s.i 0) ≤ 2 ^ most_over =
+    let low : 2 ^ (get_or c.args.starts.now (c.args.s.i + 1) 0 - get_or c.args.starts.now c.args.s.i 0) ≤ 2 ^ most_over =
     pow_mono {j = most_over} (list_few c.requires.opening.planned in-card refl refl) in
     omega (arith, c.requires.b_bound) in
     let lo_is : c.start_of-lo.result ≡ get_or c.args.starts.now c.args.s.i 0 =
-      c.start_of-lo.ensures in
+    c.start_of-lo.ensures in
     let end_is : c.start_of-end.result ≡ get_or c.args.starts.now (c.args.s.i + 1) 0 =
-      c.start_of-end.ensures in
+    c.start_of-end.ensures in
     let lent : take (c.start_of-end.result - c.start_of-lo.result) (drop c.start_of-lo.result c.args.slots.now) ≡ list_at c.args.starts.now c.args.slots.now c.args.s.i =
-      list_lent c.requires.opening.planned.prepared in-card lo_is end_is in
+    list_lent c.requires.opening.planned.prepared in-card lo_is end_is in
     let spread-is : MarkedBy (list_at c.args.starts.now c.args.slots.now c.args.s.i) c.args.marks.now c.args.s.b c.spread.new.marks =
-      rw lent at c.spread.ensures in
+    rw lent at c.spread.ensures in
     let plan : Plan =
-      plan_of c.args.l c.args.words.now c.args.twos.now c.args.starts.now c.args.slots.now in
+    plan_of c.args.l c.args.words.now c.args.twos.now c.args.starts.now c.args.slots.now in
     let spread-sides : Sides plan c.spread.new.marks c.args.s.i (c.args.s.i + 1) =
-      sides_spread c.requires.opening.planned in-card c.requires.opening.sides spread-is in
-                record {
+    sides_spread c.requires.opening.planned in-card c.requires.opening.sides spread-is in
+    record {
       planned = c.requires.opening.planned;
       inside = c.requires.opening.inside;
       sides = rw c.keep_followers.ensures.marks_unchanged spread-sides;

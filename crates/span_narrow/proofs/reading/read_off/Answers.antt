@@ -1,13 +1,10 @@
 -- `read_off` meets its contract: one word more is read in each turn (`SoFarRead`). What falls is how many places are left. Assumes nothing.
-use Prim.Native.Nat.{◌-◌, ◌<◌}
+use Prim.Native.Nat.{◌<◌}
 use native.Mathlib.Omega.{arith}
 use lib.ListN.{length}
-use borrow.Author.Rules.{rules}
 use Rattle.card_entries.proofs.HoldLaws.{few_letters, some_letter}
-use Rattle.span_narrow.specs.Plan.{plan_of}
-use Rattle.span_narrow.specs.ReadOff.{Readable}
 use Rattle.span_narrow.proofs.PlaceLaws.{tried_here}
-use Rattle.span_narrow.proofs.ReadLaws.{SoFarRead, reading_none, reading_taking, reading_turn, reading_all}
+use Rattle.span_narrow.proofs.ReadLaws.{reading_none, reading_taking, reading_turn, reading_all}
 use Rattle.span_narrow.proofs.reading.read_off.Goals as goal
 
 pub loop-i-init : goal.loop-i-init
@@ -21,14 +18,14 @@ take_first-t-requires c =
 pub offset_bounds-words-e : goal.offset_bounds-words-e
 offset_bounds-words-e c =
     let low : c.take_first-t.result.e < length c.args.words.now =
-      let inv = c.loop-i.invariant in
+    let inv = c.loop-i.invariant in
     (tried_here inv.0.planned inv.1.sides c.loop-i-test.true _ c.take_first-t.ensures.tried).0 in
     omega (arith, low, c.well_formed)
 
 pub bounds-words-e : goal.bounds-words-e
 bounds-words-e c =
     let low : c.take_first-t.result.e < length c.args.words.now =
-      let inv = c.loop-i.invariant in
+    let inv = c.loop-i.invariant in
     (tried_here inv.0.planned inv.1.sides c.loop-i-test.true _ c.take_first-t.ensures.tried).0 in
     low
 
@@ -55,7 +52,7 @@ loop-i-smaller c =
 
 pub loop-i-preserved : goal.loop-i-preserved
 loop-i-preserved c =
-            let inv = c.loop-i.invariant in
+    let inv = c.loop-i.invariant in
     (inv.0, reading_turn inv.0 inv.1 c.loop-i-test.true c.take_first-t.ensures c.tail_of-want.ensures c.either-more.ensures)
 
 pub shape_of-marks : goal.shape_of-marks

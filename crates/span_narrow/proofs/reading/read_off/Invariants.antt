@@ -1,13 +1,9 @@
 -- `read_off` meets its contract: one word more is read in each turn (`SoFarRead`). What falls is how many places are left. Assumes nothing.
-use Prim.Native.Nat.{◌-◌, ◌<◌}
-use native.Mathlib.Omega.{arith}
+use Prim.Native.Nat.{◌-◌}
 use lib.ListN.{length}
-use borrow.Author.Rules.{rules}
-use Rattle.card_entries.proofs.HoldLaws.{few_letters, some_letter}
 use Rattle.span_narrow.specs.Plan.{plan_of}
 use Rattle.span_narrow.specs.ReadOff.{Readable}
-use Rattle.span_narrow.proofs.PlaceLaws.{tried_here}
-use Rattle.span_narrow.proofs.ReadLaws.{SoFarRead, reading_none, reading_taking, reading_turn, reading_all}
+use Rattle.span_narrow.proofs.ReadLaws.{SoFarRead}
 use Rattle.span_narrow.proofs.reading.read_off.Given as goal
 
 abbrev pub invariant-loop-i : goal.invariant-loop-i

@@ -2,7 +2,6 @@
 use Prim.Native.Nat.{◌^◌, ◌≤◌}
 use native.Mathlib.Omega.{arith}
 use lib.Pow.{pow_mono}
-use borrow.Author.Rules.{rules}
 use Rattle.span_layers.specs.Narrow.{most_over}
 use Rattle.span_narrow.proofs.sweeping.sets_of.Goals as goal
 

@@ -1,12 +1,6 @@
 -- `sweep` meets its contract: one place more is swept in each turn. Assumes nothing.
-use mathlib.Core.Path.{◌≡◌, refl}
-use Prim.Native.Nat.{◌≤◌}
+use mathlib.Core.Path.{refl}
 use native.Mathlib.Omega.{arith}
-use lib.ListN.{length}
-use borrow.Author.Rules.{rules}
-use Rattle.span_narrow.specs.Plan.{plan_of}
-use Rattle.span_narrow.specs.States.{Sides}
-use Rattle.span_narrow.specs.Sweeping.{Half}
 use Rattle.span_narrow.proofs.SideLaws.{sides_marked}
 use Rattle.span_narrow.proofs.SweepLaws.{back_one, back_all}
 use Rattle.span_narrow.proofs.sweeping.sweep.Goals as goal
@@ -17,7 +11,7 @@ loop-i-init c =
 
 pub sweep_place-requires : goal.sweep_place-requires
 sweep_place-requires c =
-        let inv = c.loop-i.invariant in
+    let inv = c.loop-i.invariant in
     let back = back_one inv.0.0 inv.0.1 c.loop-i-test.true in
     record { planned = (c.requires.planned.0, omega (arith, inv.1, c.loop-i-test.true)); sides = back.0; half = back.1 }
 

@@ -1,14 +1,10 @@
 -- `sweep` meets its contract: one place more is swept in each turn. Assumes nothing.
-use mathlib.Core.Path.{◌≡◌, refl}
+use mathlib.Core.Path.{◌≡◌}
 use Prim.Native.Nat.{◌≤◌}
-use native.Mathlib.Omega.{arith}
 use lib.ListN.{length}
-use borrow.Author.Rules.{rules}
 use Rattle.span_narrow.specs.Plan.{plan_of}
 use Rattle.span_narrow.specs.States.{Sides}
 use Rattle.span_narrow.specs.Sweeping.{Half}
-use Rattle.span_narrow.proofs.SideLaws.{sides_marked}
-use Rattle.span_narrow.proofs.SweepLaws.{back_one, back_all}
 use Rattle.span_narrow.proofs.sweeping.sweep.Given as goal
 
 abbrev pub invariant-loop-i : goal.invariant-loop-i

@@ -1,19 +1,10 @@
 -- `sweep_place` meets its contract: from the last set of its entries to the first one state more is swept in each turn (`Sweeping`), and then
 -- its entries are left. Assumes nothing.
-use mathlib.Core.Path.{◌≡◌, refl, ap}
+use mathlib.Core.Path.{◌≡◌}
 use Prim.Native.Nat.{◌+◌, ◌-◌, ◌^◌, ◌≤◌}
-use native.Mathlib.Omega.{arith}
-use lib.ListN.{length, get_or, take, drop}
-use borrow.Author.Rules.{rules}
-use Rattle.card_entries.proofs.HoldLaws.{few_entries}
-use Rattle.span_layers.specs.Narrow.{most_over}
-use Rattle.span_tables.specs.Prepared.{list_at}
-use Rattle.span_steps.proofs.PlaceLaws.{list_rises, list_ends, list_lent, list_below}
+use lib.ListN.{length, get_or}
 use Rattle.span_narrow.specs.Plan.{plan_of}
 use Rattle.span_narrow.specs.Sweeping.{Sweeping}
-use Rattle.span_narrow.proofs.StateLaws.{list_few}
-use Rattle.span_narrow.proofs.SideLaws.{sides_back, sides_cleared}
-use Rattle.span_narrow.proofs.SweepLaws.{half_next, half_done}
 use Rattle.span_narrow.proofs.sweeping.sweep_place.Given as goal
 
 abbrev pub invariant-loop-b : goal.invariant-loop-b

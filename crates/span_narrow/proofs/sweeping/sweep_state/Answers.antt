@@ -5,7 +5,6 @@ use Prim.Native.Nat.{◌+◌, ◌-◌, ◌^◌, ◌≤◌, ◌<◌}
 use native.Mathlib.Omega.{arith}
 use lib.ListN.{length, get_or, take, drop}
 use lib.Pow.{pow_mono}
-use borrow.Author.Rules.{rules}
 use Rattle.card_entries.proofs.HoldLaws.{few_entries}
 use Rattle.span_layers.specs.Narrow.{most_over}
 use Rattle.span_tables.specs.Prepared.{list_at}
@@ -26,7 +25,7 @@ overflow_mul-cell c =
 pub overflow_add-cell : goal.overflow_add-cell
 overflow_add-cell c =
     let few : c.args.s.b < cells_over =
-      let low : 2 ^ (get_or c.args.starts.now (c.args.s.i + 1) 0 - get_or c.args.starts.now c.args.s.i 0) ≤ 2 ^ most_over =
+    let low : 2 ^ (get_or c.args.starts.now (c.args.s.i + 1) 0 - get_or c.args.starts.now c.args.s.i 0) ≤ 2 ^ most_over =
     pow_mono {j = most_over} (list_few c.requires.sweeping.planned c.requires.sweeping.inside refl refl) in
     omega (arith, c.requires.b_bound) in
     omega (arith, c.requires.sweeping.inside, few_entries c.requires.sweeping.planned.card, few)
@@ -34,14 +33,14 @@ overflow_add-cell c =
 pub bounds-table-cell : goal.bounds-table-cell
 bounds-table-cell c =
     let few : c.args.s.b < cells_over =
-      let low : 2 ^ (get_or c.args.starts.now (c.args.s.i + 1) 0 - get_or c.args.starts.now c.args.s.i 0) ≤ 2 ^ most_over =
+    let low : 2 ^ (get_or c.args.starts.now (c.args.s.i + 1) 0 - get_or c.args.starts.now c.args.s.i 0) ≤ 2 ^ most_over =
     pow_mono {j = most_over} (list_few c.requires.sweeping.planned c.requires.sweeping.inside refl refl) in
     omega (arith, c.requires.b_bound) in
     cell_there c.requires.sweeping.half c.requires.sweeping.inside few
 
 pub returns-then-table-cell-eq0 : goal.returns-then-table-cell-eq0
 returns-then-table-cell-eq0 c =
-        record {
+    record {
       planned = c.requires.sweeping.planned;
       inside = c.requires.sweeping.inside;
       sides = c.requires.sweeping.sides;
@@ -63,51 +62,51 @@ start_of-end-requires c =
 pub offset_bounds-slots-lo : goal.offset_bounds-slots-lo
 offset_bounds-slots-lo c =
     let lo_is : c.start_of-lo.result ≡ get_or c.args.starts.now c.args.s.i 0 =
-      c.start_of-lo.ensures in
+    c.start_of-lo.ensures in
     let end_is : c.start_of-end.result ≡ get_or c.args.starts.now (c.args.s.i + 1) 0 =
-      c.start_of-end.ensures in
+    c.start_of-end.ensures in
     let rises : c.start_of-lo.result ≤ c.start_of-end.result =
-      list_rises c.requires.sweeping.planned.prepared c.requires.sweeping.inside lo_is end_is in
+    list_rises c.requires.sweeping.planned.prepared c.requires.sweeping.inside lo_is end_is in
     let ends : c.start_of-end.result ≤ length c.args.slots.now =
-      list_ends c.requires.sweeping.planned.prepared c.requires.sweeping.inside lo_is end_is in
+    list_ends c.requires.sweeping.planned.prepared c.requires.sweeping.inside lo_is end_is in
     omega (arith, rises, ends, c.well_formed)
 
 pub slice_bounds-spread-count : goal.slice_bounds-spread-count
 slice_bounds-spread-count c =
     let lo_is : c.start_of-lo.result ≡ get_or c.args.starts.now c.args.s.i 0 =
-      c.start_of-lo.ensures in
+    c.start_of-lo.ensures in
     let end_is : c.start_of-end.result ≡ get_or c.args.starts.now (c.args.s.i + 1) 0 =
-      c.start_of-end.ensures in
+    c.start_of-end.ensures in
     let rises : c.start_of-lo.result ≤ c.start_of-end.result =
-      list_rises c.requires.sweeping.planned.prepared c.requires.sweeping.inside lo_is end_is in
+    list_rises c.requires.sweeping.planned.prepared c.requires.sweeping.inside lo_is end_is in
     rises
 
 pub slice_bounds-spread-start : goal.slice_bounds-spread-start
 slice_bounds-spread-start c =
     let lo_is : c.start_of-lo.result ≡ get_or c.args.starts.now c.args.s.i 0 =
-      c.start_of-lo.ensures in
+    c.start_of-lo.ensures in
     let end_is : c.start_of-end.result ≡ get_or c.args.starts.now (c.args.s.i + 1) 0 =
-      c.start_of-end.ensures in
+    c.start_of-end.ensures in
     let rises : c.start_of-lo.result ≤ c.start_of-end.result =
-      list_rises c.requires.sweeping.planned.prepared c.requires.sweeping.inside lo_is end_is in
+    list_rises c.requires.sweeping.planned.prepared c.requires.sweeping.inside lo_is end_is in
     rises
 
 pub slice_bounds-spread-end : goal.slice_bounds-spread-end
 slice_bounds-spread-end c =
     let lo_is : c.start_of-lo.result ≡ get_or c.args.starts.now c.args.s.i 0 =
-      c.start_of-lo.ensures in
+    c.start_of-lo.ensures in
     let end_is : c.start_of-end.result ≡ get_or c.args.starts.now (c.args.s.i + 1) 0 =
-      c.start_of-end.ensures in
+    c.start_of-end.ensures in
     let ends : c.start_of-end.result ≤ length c.args.slots.now =
-      list_ends c.requires.sweeping.planned.prepared c.requires.sweeping.inside lo_is end_is in
+    list_ends c.requires.sweeping.planned.prepared c.requires.sweeping.inside lo_is end_is in
     ends
 
 pub spread-requires : goal.spread-requires
 spread-requires c =
     let lo_is : c.start_of-lo.result ≡ get_or c.args.starts.now c.args.s.i 0 =
-      c.start_of-lo.ensures in
+    c.start_of-lo.ensures in
     let end_is : c.start_of-end.result ≡ get_or c.args.starts.now (c.args.s.i + 1) 0 =
-      c.start_of-end.ensures in
+    c.start_of-end.ensures in
     let s = c.requires.sweeping in
     let asked = spread_asks s.planned s.inside lo_is end_is s.sides.marks_all (rw (lo_is, end_is) c.requires.b_bound) in
     record { below = asked.0; apart = asked.1.0; b_bound = asked.1.1 }
@@ -115,26 +114,26 @@ spread-requires c =
 pub chances-requires : goal.chances-requires
 chances-requires c =
     let lo_is : c.start_of-lo.result ≡ get_or c.args.starts.now c.args.s.i 0 =
-      c.start_of-lo.ensures in
+    c.start_of-lo.ensures in
     let end_is : c.start_of-end.result ≡ get_or c.args.starts.now (c.args.s.i + 1) 0 =
-      c.start_of-end.ensures in
+    c.start_of-end.ensures in
     let lent : take (c.start_of-end.result - c.start_of-lo.result) (drop c.start_of-lo.result c.args.slots.now) ≡ list_at c.args.starts.now c.args.slots.now c.args.s.i =
-      list_lent c.requires.sweeping.planned.prepared c.requires.sweeping.inside lo_is end_is in
+    list_lent c.requires.sweeping.planned.prepared c.requires.sweeping.inside lo_is end_is in
     let spread-is : MarkedBy (list_at c.args.starts.now c.args.slots.now c.args.s.i) c.args.marks.now c.args.s.b c.spread.new.marks =
-      rw lent at c.spread.ensures in
+    rw lent at c.spread.ensures in
     let plan : Plan =
-      plan_of c.args.l c.args.words.now c.args.twos.now c.args.starts.now c.args.slots.now in
+    plan_of c.args.l c.args.words.now c.args.twos.now c.args.starts.now c.args.slots.now in
     let spread-sides : Sides plan c.spread.new.marks c.args.s.i (c.args.s.i + 1) =
-      sides_spread c.requires.sweeping.planned c.requires.sweeping.inside c.requires.sweeping.sides spread-is in
+    sides_spread c.requires.sweeping.planned c.requires.sweeping.inside c.requires.sweeping.sides spread-is in
     let trying : Trying plan c.spread.new.marks c.args.table.now c.args.s.i =
-      half_trying c.requires.sweeping.planned _ c.requires.sweeping.half c.requires.sweeping.inside spread-sides spread-is.digits
+    half_trying c.requires.sweeping.planned _ c.requires.sweeping.half c.requires.sweeping.inside spread-sides spread-is.digits
     c.if-table-cell-eq0.false in
     trying
 
 pub bounds-table-cell-2 : goal.bounds-table-cell-2
 bounds-table-cell-2 c =
     let few : c.args.s.b < cells_over =
-      let low : 2 ^ (get_or c.args.starts.now (c.args.s.i + 1) 0 - get_or c.args.starts.now c.args.s.i 0) ≤ 2 ^ most_over =
+    let low : 2 ^ (get_or c.args.starts.now (c.args.s.i + 1) 0 - get_or c.args.starts.now c.args.s.i 0) ≤ 2 ^ most_over =
     pow_mono {j = most_over} (list_few c.requires.sweeping.planned c.requires.sweeping.inside refl refl) in
     omega (arith, c.requires.b_bound) in
     cell_there c.requires.sweeping.half c.requires.sweeping.inside few
@@ -142,22 +141,22 @@ bounds-table-cell-2 c =
 pub returns : goal.returns
 returns c =
     let few : c.args.s.b < cells_over =
-      let low : 2 ^ (get_or c.args.starts.now (c.args.s.i + 1) 0 - get_or c.args.starts.now c.args.s.i 0) ≤ 2 ^ most_over =
+    let low : 2 ^ (get_or c.args.starts.now (c.args.s.i + 1) 0 - get_or c.args.starts.now c.args.s.i 0) ≤ 2 ^ most_over =
     pow_mono {j = most_over} (list_few c.requires.sweeping.planned c.requires.sweeping.inside refl refl) in
     omega (arith, c.requires.b_bound) in
     let lo_is : c.start_of-lo.result ≡ get_or c.args.starts.now c.args.s.i 0 =
-      c.start_of-lo.ensures in
+    c.start_of-lo.ensures in
     let end_is : c.start_of-end.result ≡ get_or c.args.starts.now (c.args.s.i + 1) 0 =
-      c.start_of-end.ensures in
+    c.start_of-end.ensures in
     let lent : take (c.start_of-end.result - c.start_of-lo.result) (drop c.start_of-lo.result c.args.slots.now) ≡ list_at c.args.starts.now c.args.slots.now c.args.s.i =
-      list_lent c.requires.sweeping.planned.prepared c.requires.sweeping.inside lo_is end_is in
+    list_lent c.requires.sweeping.planned.prepared c.requires.sweeping.inside lo_is end_is in
     let spread-is : MarkedBy (list_at c.args.starts.now c.args.slots.now c.args.s.i) c.args.marks.now c.args.s.b c.spread.new.marks =
-      rw lent at c.spread.ensures in
+    rw lent at c.spread.ensures in
     let plan : Plan =
-      plan_of c.args.l c.args.words.now c.args.twos.now c.args.starts.now c.args.slots.now in
+    plan_of c.args.l c.args.words.now c.args.twos.now c.args.starts.now c.args.slots.now in
     let spread-sides : Sides plan c.spread.new.marks c.args.s.i (c.args.s.i + 1) =
-      sides_spread c.requires.sweeping.planned c.requires.sweeping.inside c.requires.sweeping.sides spread-is in
-                record {
+    sides_spread c.requires.sweeping.planned c.requires.sweeping.inside c.requires.sweeping.sides spread-is in
+    record {
       planned = c.requires.sweeping.planned;
       inside = c.requires.sweeping.inside;
       sides = rw c.chances.ensures.marks_unchanged spread-sides;
