@@ -1,9 +1,7 @@
 -- `export` meets its contract. Assumes nothing.
 use mathlib.Core.Path.{sym, ap, ◌∙◌}
-use Rattle.card_block.specs.Bytes.{AreBytes}
 use Rattle.card_reader.specs.Fetching.{says_admitted}
 use Rattle.text_export.proofs.ExportLaws.{export_refused}
-use borrow.Author.Rules.{rules}
 use Rattle.text_export.proofs.export.Goals as goal
 
 pub export_card-requires : goal.export_card-requires

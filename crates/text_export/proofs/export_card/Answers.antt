@@ -1,11 +1,7 @@
 -- `export_card` meets its contract. Assumes nothing.
-use mathlib.Core.Path.{◌≡◌, sym, ◌∙◌}
-use Prim.Native.Nat.{ℕ}
-use lib.ListN.{length, take}
+use mathlib.Core.Path.{sym, ◌∙◌}
 use lib.Seq.{length-take-le}
-use Rattle.card_block.specs.Bytes.{AreBytes}
 use Rattle.text_export.proofs.ExportLaws.{export_no_room, export_text}
-use borrow.Author.Rules.{rules}
 use Rattle.text_export.proofs.export_card.Goals as goal
 
 pub returns-then-out-n : goal.returns-then-out-n

@@ -1,7 +1,5 @@
 -- `listed_for` meets its contract. Assumes nothing.
-use Prim.Native.Nat.{◌+◌, ◌≤◌}
 use native.Mathlib.Omega.{arith}
-use Rattle.text_probes.specs.Line.{most_number}
 use Rattle.text_export.proofs.PutLaws.{for_span, for_one, for_two, small_span, small_one, small_two}
 use Rattle.text_export.proofs.listed_for.Goals as goal
 

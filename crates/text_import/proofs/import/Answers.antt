@@ -1,17 +1,9 @@
 -- `import` meets its contract: what scanning refuses, the rules of cards, and the lists that were kept. Assumes nothing.
-use mathlib.Core.Path.{◌≡◌, sym, ap, ◌∙◌}
-use Prim.Native.Nat.{◌≤◌}
+use mathlib.Core.Path.{sym, ap, ◌∙◌}
 use native.Mathlib.Omega.{arith}
-use lib.ListN.{length}
 use lib.Seq.{length-take-le}
-use Rattle.base_answers.specs.Answer.{given}
-use Rattle.base_lists.proofs.TestLaws.{failed, passed}
-use Rattle.card_entries.specs.Bounds.{most_entries}
-use Rattle.card_entries.specs.Fault.{most_length}
-use Rattle.text_probes.specs.Testing.{scanning}
 use Rattle.text_probes.specs.Says.{says_scanned}
 use Rattle.text_import.proofs.ImportingLaws.{import_refused, import_sound, sound_length, sound_many, sound_written, few_letters, few_entries}
-use borrow.Author.Rules.{rules}
 use Rattle.text_import.proofs.import.Goals as goal
 
 pub returns-then-not-is_length : goal.returns-then-not-is_length

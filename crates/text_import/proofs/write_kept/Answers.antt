@@ -1,6 +1,5 @@
 -- `write_kept` meets its contract. Assumes nothing.
 use Rattle.text_import.proofs.ImportingLaws.{closed_writes}
-use borrow.Author.Rules.{rules}
 use Rattle.text_import.proofs.write_kept.Goals as goal
 
 pub returns : goal.returns

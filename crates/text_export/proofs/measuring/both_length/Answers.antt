@@ -1,7 +1,6 @@
 -- `both_length` meets its contract. Assumes nothing.
 use native.Mathlib.Omega.{arith}
 use Rattle.base_text.proofs.DecimalLaws.{decimal_few}
-use borrow.Author.Rules.{rules}
 use Rattle.text_export.proofs.measuring.both_length.Goals as goal
 
 pub overflow_add-result : goal.overflow_add-result

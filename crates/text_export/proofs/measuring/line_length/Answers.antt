@@ -1,5 +1,5 @@
 -- `line_length` meets its contract (`line_long`). Assumes nothing.
-use mathlib.Core.Path.{◌≡◌, ap, ◌∙◌}
+use mathlib.Core.Path.{ap, ◌∙◌}
 use native.Mathlib.Omega.{arith}
 use lib.ListN.{length}
 use Rattle.text_probes.specs.declared.line.Marked.{Marked}
@@ -7,7 +7,6 @@ use Rattle.text_probes.specs.Line.{listed_text}
 use Rattle.text_probes.proofs.LengthLaws.{listed_few}
 use Rattle.text_export.specs.Exporting.{listed_for}
 use Rattle.text_export.proofs.PutLaws.{line_long}
-use borrow.Author.Rules.{rules}
 use Rattle.text_export.proofs.measuring.line_length.Goals as goal
 
 pub overflow_add-result-2 : goal.overflow_add-result-2

@@ -4,7 +4,6 @@ use lib.ListN.{length}
 use Rattle.base_text.specs.Text.{ascii}
 use Rattle.text_probes.specs.Line.{listed_text}
 use Rattle.text_export.proofs.PutLaws.{both_long}
-use borrow.Author.Rules.{rules}
 use Rattle.text_export.proofs.measuring.listed_length.Goals as goal
 
 pub returns-in-Bare : goal.returns-in-Bare

@@ -6,7 +6,6 @@ use native.Mathlib.Omega.{arith}
 use lib.ListN.{length, length-append}
 use Rattle.base_text.specs.Text.{decimal}
 use Rattle.base_text.proofs.PuttingLaws.{length_put, put_then}
-use borrow.Author.Rules.{rules}
 use Rattle.text_export.proofs.putting.put_both.Goals as goal
 
 long : (xs ys zs : List ℕ) → length (xs ++ (ys ++ zs)) ≡ length xs + (length ys + length zs)

@@ -1,14 +1,11 @@
 -- `put_line` meets its contract: its four parts, one after the other (`line_put`). Assumes nothing.
-use mathlib.Core.Path.{◌≡◌, ap}
-use Prim.Native.Nat.{◌+◌}
+use mathlib.Core.Path.{ap}
 use native.Mathlib.Omega.{arith}
 use lib.ListN.{length}
 use Rattle.text_probes.specs.declared.line.Marked.{Marked}
 use Rattle.base_text.proofs.PuttingLaws.{length_put, put_then}
-use Rattle.text_probes.specs.Line.{listed_text, line_text}
-use Rattle.text_export.specs.Exporting.{listed_for, line_for}
+use Rattle.text_probes.specs.Line.{listed_text}
 use Rattle.text_export.proofs.PutLaws.{word_long, line_long, line_put}
-use borrow.Author.Rules.{rules}
 use Rattle.text_export.proofs.putting.put_line.Goals as goal
 
 pub put_word-tab_at-requires : goal.put_word-tab_at-requires

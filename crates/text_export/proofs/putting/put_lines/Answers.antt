@@ -1,13 +1,11 @@
 -- `put_lines` meets its contract: the lines so far stand at the start of the output (`Lines`). What falls is how many are left. Assumes nothing.
 use mathlib.Core.Path.{sym, ap, ◌∙◌}
-use Prim.Native.Nat.{◌-◌}
 use lib.ListN.{length}
-use borrow.Author.Rules.{rules}
 use Rattle.card_entries.specs.declared.Slot.{Slot}
 use Rattle.base_text.proofs.PuttingLaws.{length_put, put_as}
 use Rattle.text_probes.specs.Line.{line_text}
 use Rattle.text_export.specs.Exporting.{line_for}
-use Rattle.text_export.proofs.LoopLaws.{Lines, lines_none, lines_turn, lines_room, lines_all}
+use Rattle.text_export.proofs.LoopLaws.{lines_none, lines_turn, lines_room, lines_all}
 use Rattle.text_export.proofs.ExportLaws.{slot_there, its_bounds, its_small, list_is}
 use Rattle.text_export.proofs.putting.put_lines.Goals as goal
 
@@ -24,10 +22,10 @@ put_line-at-requires c =
     let here = c.loop-e-test.true in
     let whole = c.requires.1 ∙ ap length (list_is card c.requires.0) in
     rw c.slot_of.ensures (
-      record {
-        fine = (bounds.0, bounds.1, its_small card c.requires.0 _ here);
-        room = lines_room _ _ c.loop-e.invariant here whole;
-      }
+    record {
+      fine = (bounds.0, bounds.1, its_small card c.requires.0 _ here);
+      room = lines_room _ _ c.loop-e.invariant here whole;
+    }
     )
 
 pub loop-e-preserved : goal.loop-e-preserved

@@ -5,7 +5,6 @@ use lib.ListN.{length}
 use Rattle.text_probes.specs.declared.line.Marked.{Marked}
 use Rattle.base_text.proofs.PuttingLaws.{put_as}
 use Rattle.text_probes.specs.Line.{listed_text}
-use borrow.Author.Rules.{rules}
 use Rattle.text_export.proofs.putting.put_listed.Goals as goal
 
 pub put_digits-requires : goal.put_digits-requires

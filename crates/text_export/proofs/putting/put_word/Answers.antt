@@ -1,10 +1,8 @@
 -- `put_word` meets its contract: one letter more stands in each turn, before the others (`letters_turn`). What falls is how many are left.
 -- Assumes nothing.
-use Prim.Native.Nat.{◌-◌}
 use native.Mathlib.Omega.{arith}
-use borrow.Author.Rules.{rules}
 use Rattle.base_text.proofs.PuttingLaws.{length_put}
-use Rattle.text_export.proofs.PutLaws.{LettersFrom, letters_none, letters_turn, letters_all}
+use Rattle.text_export.proofs.PutLaws.{letters_none, letters_turn, letters_all}
 use Rattle.text_export.proofs.putting.put_word.Goals as goal
 
 pub loop-i-init : goal.loop-i-init

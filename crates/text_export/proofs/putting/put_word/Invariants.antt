@@ -1,10 +1,7 @@
 -- `put_word` meets its contract: one letter more stands in each turn, before the others (`letters_turn`). What falls is how many are left.
 -- Assumes nothing.
 use Prim.Native.Nat.{◌-◌}
-use native.Mathlib.Omega.{arith}
-use borrow.Author.Rules.{rules}
-use Rattle.base_text.proofs.PuttingLaws.{length_put}
-use Rattle.text_export.proofs.PutLaws.{LettersFrom, letters_none, letters_turn, letters_all}
+use Rattle.text_export.proofs.PutLaws.{LettersFrom}
 use Rattle.text_export.proofs.putting.put_word.Given as goal
 
 abbrev pub invariant-loop-i : goal.invariant-loop-i
