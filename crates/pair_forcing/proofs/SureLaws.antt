@@ -1,7 +1,7 @@
 -- Laws of a place with one entry left. No contract cites this file. Assumes nothing.
 use mathlib.Core.Path.{◌≡◌, sym, ap, ◌∙◌}
 use mathlib.Core.Bool.{Bool, true, false, true≢false}
-use mathlib.Core.Logic.{◌≢◌, ◌⊎◌, inl, inr, by_cases}
+use mathlib.Core.Logic.{◌⊎◌, inl, inr, by_cases}
 use Prim.Native.Nat.{ℕ, ◌<◌, ◌≤◌}
 use native.Mathlib.Decide.{ℕ_discrete}
 use Rattle.pair_theory.specs.Arranged.{Pairs, Inside, Arranged}

@@ -1,6 +1,5 @@
 -- `pair_choosing::can_stand_at` meets its contract. Assumes nothing.
 use Rattle.pair_choosing.proofs.Choosing.{stand_there, stand_not}
-use borrow.Author.Rules.{rules}
 use Rattle.pair_choosing.proofs.can_stand_at.Goals as goal
 
 pub returns-then-p-t : goal.returns-then-p-t

@@ -1,8 +1,6 @@
 -- `pair_choosing::choose` meets its contract: a law of proofs/Choosing.antt for each outcome. Assumes nothing.
-use Prim.Native.Nat.{◌-◌}
 use Rattle.pair_choosing.proofs.Choosing.{choose_none, choose_one, choose_weighed_none, choose_kept}
 use Rattle.pair_following.proofs.ExclusionLaws.{inside_of}
-use borrow.Author.Rules.{rules}
 use Rattle.pair_choosing.proofs.choose.Goals as goal
 
 pub returns-then-a-eq0 : goal.returns-then-a-eq0

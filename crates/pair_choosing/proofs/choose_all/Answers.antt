@@ -1,10 +1,9 @@
 -- `pair_choosing::choose_all` meets its contract. The loop's invariant is `Deciding` of proofs/Deciding.antt. Assumes nothing.
-use mathlib.Core.Path.{sym, ◌∙◌}
-use Prim.Native.Nat.{◌-◌, ◌<◌, ◌≤◌}
+use Prim.Native.Nat.{◌<◌}
 use native.Mathlib.Omega.{arith}
-use Rattle.pair_following.specs.Following.{count_in, pairs_of, progress_of}
+use Rattle.pair_following.specs.Following.{count_in}
 use Rattle.pair_following.proofs.ExclusionLaws.{inside_of}
-use Rattle.pair_choosing.proofs.Deciding.{Deciding, deciding_more, deciding_stops, deciding_end}
+use Rattle.pair_choosing.proofs.Deciding.{deciding_more, deciding_stops, deciding_end}
 use Rattle.pair_choosing.proofs.choose_all.Goals as goal
 
 pub loop-t-init : goal.loop-t-init
@@ -52,32 +51,11 @@ loop-t-preserved c =
       deciding_more (inside_of pre.ready.holds) c.loop-t.invariant.1 in_range c.choose-g.ensures c.if-g.true,
     )
 
-pub shape_of-put-else-g : goal.shape_of-put-else-g
-shape_of-put-else-g c =
-    c.choose-g.ensures.shape.puts ∙ sym c.requires.ready.shape.puts
-
-pub shape_of-trail-else-g : goal.shape_of-trail-else-g
-shape_of-trail-else-g c =
-    c.choose-g.ensures.shape.trails ∙ sym c.requires.ready.shape.trails
-
-pub shape_of-words-else-g : goal.shape_of-words-else-g
-shape_of-words-else-g c =
-    c.loop-t.invariant.1.count ∙ sym c.requires.words_len
-
 pub returns-else-g : goal.returns-else-g
 returns-else-g c =
     let in_range : c.loop-t.t < count_in c.args.card.now = rw c.loop-t.invariant.1.shape.puts at c.loop-t-test.true in
     let pre = c.requires in
     deciding_stops (inside_of pre.ready.holds) c.loop-t.invariant.1 in_range c.choose-g.ensures c.if-g.false _
-
-pub shape_of-put : goal.shape_of-put
-shape_of-put c = c.loop-t.invariant.1.shape.puts ∙ sym c.requires.ready.shape.puts
-
-pub shape_of-trail : goal.shape_of-trail
-shape_of-trail c = c.loop-t.invariant.1.shape.trails ∙ sym c.requires.ready.shape.trails
-
-pub shape_of-words : goal.shape_of-words
-shape_of-words c = c.loop-t.invariant.1.count ∙ sym c.requires.words_len
 
 pub returns : goal.returns
 returns c =

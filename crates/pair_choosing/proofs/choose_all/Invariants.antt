@@ -1,10 +1,7 @@
 -- `pair_choosing::choose_all` meets its contract. The loop's invariant is `Deciding` of proofs/Deciding.antt. Assumes nothing.
-use mathlib.Core.Path.{sym, ◌∙◌}
-use Prim.Native.Nat.{◌-◌, ◌<◌, ◌≤◌}
-use native.Mathlib.Omega.{arith}
+use Prim.Native.Nat.{◌-◌, ◌≤◌}
 use Rattle.pair_following.specs.Following.{count_in, pairs_of, progress_of}
-use Rattle.pair_following.proofs.ExclusionLaws.{inside_of}
-use Rattle.pair_choosing.proofs.Deciding.{Deciding, deciding_more, deciding_stops, deciding_end}
+use Rattle.pair_choosing.proofs.Deciding.{Deciding}
 use Rattle.pair_choosing.proofs.choose_all.Given as goal
 
 abbrev pub invariant-loop-t : goal.invariant-loop-t

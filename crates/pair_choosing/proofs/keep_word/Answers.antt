@@ -1,11 +1,7 @@
 -- `pair_choosing::keep_word` meets its contract. The loop goes through the list of t (`Listing`), with `Dropping` of proofs/Choosing.antt.
 -- Assumes nothing.
-use mathlib.Core.Path.{sym, ◌∙◌}
-use borrow.Author.Rules.{rules}
-use Rattle.pair_following.specs.Following.{pairs_of, progress_of}
-use Rattle.pair_choosing.specs.Choosing.{pick_of}
-use Rattle.pair_following.proofs.Slots.{Listing, list_start, list_none, slot_low, list_entry, list_stands, list_more, list_less, list_next}
-use Rattle.pair_choosing.proofs.Choosing.{Dropping, dropping_start, dropping_more, dropping_stops, dropping_end}
+use Rattle.pair_following.proofs.Slots.{list_start, list_none, slot_low, list_entry, list_stands, list_more, list_less, list_next}
+use Rattle.pair_choosing.proofs.Choosing.{dropping_start, dropping_more, dropping_stops, dropping_end}
 use Rattle.pair_choosing.proofs.keep_word.Goals as goal
 
 pub loop-k-init : goal.loop-k-init
@@ -43,14 +39,6 @@ loop-k-preserved c =
           c.send_off-g.ensures c.if-g.true,
     )
 
-pub shape_of-put-else-g : goal.shape_of-put-else-g
-shape_of-put-else-g c =
-    c.send_off-g.ensures.shape.puts ∙ sym c.requires.ready.shape.puts
-
-pub shape_of-trail-else-g : goal.shape_of-trail-else-g
-shape_of-trail-else-g c =
-    c.send_off-g.ensures.shape.trails ∙ sym c.requires.ready.shape.trails
-
 pub returns-else-g : goal.returns-else-g
 returns-else-g c =
     let pre = c.requires in
@@ -58,12 +46,6 @@ returns-else-g c =
     let more = c.loop-k-test.true in
     dropping_stops pre.t_bound (list_entry pre.ready.links inv.0 more)
     (list_next pre.ready.links inv.0 more c.args.mask) inv.1 c.send_off-g.ensures c.if-g.false
-
-pub shape_of-put : goal.shape_of-put
-shape_of-put c = c.loop-k.invariant.1.shape.puts ∙ sym c.requires.ready.shape.puts
-
-pub shape_of-trail : goal.shape_of-trail
-shape_of-trail c = c.loop-k.invariant.1.shape.trails ∙ sym c.requires.ready.shape.trails
 
 pub returns : goal.returns
 returns c = dropping_end c.loop-k-test.false c.loop-k.invariant.1

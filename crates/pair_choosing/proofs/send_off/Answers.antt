@@ -1,11 +1,10 @@
 -- `pair_choosing::send_off` meets its contract: a law of proofs/Choosing.antt for each outcome. Assumes nothing.
 use mathlib.Core.Path.{sym, ◌∙◌}
-use mathlib.Core.Logic.{◌≢◌, ◌⊎◌, ⊎_elim}
+use mathlib.Core.Logic.{◌≢◌, ⊎_elim}
 use native.Mathlib.Omega.{arith}
 use Rattle.pair_following.specs.Following.{pairs_of, word_in}
 use Rattle.pair_following.proofs.ExclusionLaws.{other_asks, other_inside, other_stands, word_asks}
 use Rattle.pair_choosing.proofs.Choosing.{drops_still, drops_not, drops_follow, only_there}
-use borrow.Author.Rules.{rules}
 use Rattle.pair_choosing.proofs.send_off.Goals as goal
 
 pub word_of-requires : goal.word_of-requires

@@ -1,9 +1,5 @@
 -- `pair_choosing::weigh` meets its contract. The loop goes through the list of t (`Listing`). Assumes nothing.
-use mathlib.Core.Path.{sym, ◌∙◌}
-use borrow.Author.Rules.{rules}
-use Rattle.pair_following.specs.Following.{nth, pairs_of, progress_of}
-use Rattle.pair_choosing.specs.Choosing.{Kept, Weighed}
-use Rattle.pair_following.proofs.Slots.{Listing, list_start, list_none, slot_low, list_entry, list_stands, list_more, list_less, list_next}
+use Rattle.pair_following.proofs.Slots.{list_start, list_none, slot_low, list_entry, list_stands, list_more, list_less, list_next}
 use Rattle.pair_choosing.proofs.Choosing.{kept_none, weighed_start, weighing_more, weighed_end}
 use Rattle.pair_choosing.proofs.weigh.Goals as goal
 
@@ -38,12 +34,6 @@ loop-k-preserved c =
     let next = list_next pre.ready.links inv.0 more c.args.mask in
     let both = weighing_more pre.t_bound (list_entry pre.ready.links inv.0 more) next inv.1 inv.2 c.with_tried-s.ensures in
     rw c.slot_before-k.ensures (list_more pre.ready.links inv.0 more, both.0, both.1)
-
-pub shape_of-put : goal.shape_of-put
-shape_of-put c = c.loop-k.invariant.1.shape.puts ∙ sym c.requires.ready.shape.puts
-
-pub shape_of-trail : goal.shape_of-trail
-shape_of-trail c = c.loop-k.invariant.1.shape.trails ∙ sym c.requires.ready.shape.trails
 
 pub returns : goal.returns
 returns c = (c.loop-k.invariant.1, weighed_end c.loop-k-test.false c.loop-k.invariant.2)

@@ -1,10 +1,7 @@
 -- `pair_choosing::weigh` meets its contract. The loop goes through the list of t (`Listing`). Assumes nothing.
-use mathlib.Core.Path.{sym, ◌∙◌}
-use borrow.Author.Rules.{rules}
 use Rattle.pair_following.specs.Following.{nth, pairs_of, progress_of}
 use Rattle.pair_choosing.specs.Choosing.{Kept, Weighed}
-use Rattle.pair_following.proofs.Slots.{Listing, list_start, list_none, slot_low, list_entry, list_stands, list_more, list_less, list_next}
-use Rattle.pair_choosing.proofs.Choosing.{kept_none, weighed_start, weighing_more, weighed_end}
+use Rattle.pair_following.proofs.Slots.{Listing}
 use Rattle.pair_choosing.proofs.weigh.Given as goal
 
 abbrev pub invariant-loop-k : goal.invariant-loop-k

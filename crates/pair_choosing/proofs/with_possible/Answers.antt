@@ -1,7 +1,6 @@
 -- `pair_choosing::with_possible` meets its contract. Assumes nothing.
 use mathlib.Core.Path.{refl}
 use mathlib.Core.Logic.{inl, inr}
-use borrow.Author.Rules.{rules}
 use Rattle.pair_choosing.proofs.with_possible.Goals as goal
 
 pub returns-then-possible : goal.returns-then-possible

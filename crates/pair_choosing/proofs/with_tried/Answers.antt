@@ -3,7 +3,6 @@ use mathlib.Core.Path.{refl}
 use mathlib.Core.Logic.{inl, inr}
 use Rattle.pair_following.proofs.ExclusionLaws.{word_asks}
 use Rattle.pair_choosing.proofs.Choosing.{tries_of}
-use borrow.Author.Rules.{rules}
 use Rattle.pair_choosing.proofs.with_tried.Goals as goal
 
 pub word_of-requires : goal.word_of-requires

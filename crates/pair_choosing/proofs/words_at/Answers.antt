@@ -1,8 +1,5 @@
 -- `pair_choosing::words_at` meets its contract. The loop goes through the list of t (`Listing`). Assumes nothing.
-use borrow.Author.Rules.{rules}
-use Rattle.pair_following.specs.Following.{nth, pairs_of}
-use Rattle.pair_following.specs.Common.{Common}
-use Rattle.pair_following.proofs.Slots.{Listing, list_start, list_none, slot_low, list_entry, list_more, list_less, list_next}
+use Rattle.pair_following.proofs.Slots.{list_start, list_none, slot_low, list_entry, list_more, list_less, list_next}
 use Rattle.pair_following.proofs.CommonLaws.{common_start, common_end}
 use Rattle.pair_choosing.proofs.Choosing.{common_also}
 use Rattle.pair_choosing.proofs.words_at.Goals as goal

@@ -1,8 +1,6 @@
 -- `pair_following::attempt` meets its contract: following, then undoing (`attempted`, proofs/UndoLaws.antt). Assumes nothing.
-use Prim.Native.Nat.{◌-◌}
 use native.Mathlib.Omega.{arith}
 use Rattle.pair_following.proofs.UndoLaws.{attempted}
-use borrow.Author.Rules.{rules}
 use Rattle.pair_following.proofs.attempt.Goals as goal
 
 pub undo-requires : goal.undo-requires

@@ -1,12 +1,10 @@
 -- `pair_following::clear` meets its contract. The loop goes through the list of q; the entries from slot k on are free of e (`Clearing`,
 -- proofs/PlaceLaws.antt). The measure is k. Assumes nothing.
-use mathlib.Core.Path.{sym, ◌∙◌}
 use Prim.Native.Nat.{◌<◌}
-use borrow.Author.Rules.{rules}
-use Rattle.pair_following.specs.Following.{nth, count_in, pairs_of, progress_of}
+use Rattle.pair_following.specs.Following.{nth, count_in}
 use Rattle.pair_following.proofs.StepLaws.{grown_stops, grown_ok}
-use Rattle.pair_following.proofs.Slots.{Listing, list_start, slot_low, list_entry, list_stands, list_more, list_less}
-use Rattle.pair_following.proofs.PlaceLaws.{Clearing, clear_start, clear_more, clear_end}
+use Rattle.pair_following.proofs.Slots.{list_start, slot_low, list_entry, list_stands, list_more, list_less}
+use Rattle.pair_following.proofs.PlaceLaws.{clear_start, clear_more, clear_end}
 use Rattle.pair_following.proofs.clear.Goals as goal
 
 pub loop-k-init : goal.loop-k-init
@@ -43,23 +41,9 @@ loop-k-preserved c =
     rw c.slot_before-k.ensures
     (list_more pre.ready.links inv.0 more, clear_more c.args.mask pre.ready.links inv.0 inv.1 more pre.placed.0 placed grown)
 
-pub shape_of-put-else-g : goal.shape_of-put-else-g
-shape_of-put-else-g c =
-    c.exclude-g.ensures.shape.puts ∙ sym c.requires.ready.shape.puts
-
-pub shape_of-trail-else-g : goal.shape_of-trail-else-g
-shape_of-trail-else-g c =
-    c.exclude-g.ensures.shape.trails ∙ sym c.requires.ready.shape.trails
-
 pub returns-else-g : goal.returns-else-g
 returns-else-g c =
     grown_stops c.loop-k.invariant.1.grown c.exclude-g.ensures c.if-g.false
-
-pub shape_of-put : goal.shape_of-put
-shape_of-put c = c.loop-k.invariant.1.grown.shape.puts ∙ sym c.requires.ready.shape.puts
-
-pub shape_of-trail : goal.shape_of-trail
-shape_of-trail c = c.loop-k.invariant.1.grown.shape.trails ∙ sym c.requires.ready.shape.trails
 
 pub returns : goal.returns
 returns c = clear_end c.loop-k-test.false c.loop-k.invariant.1

@@ -1,9 +1,7 @@
 -- `pair_following::clear_beside` meets its contract. Assumes nothing.
 use mathlib.Core.Path.{◌≡◌}
-use Prim.Native.Nat.{◌-◌, ◌<◌}
+use Prim.Native.Nat.{◌-◌}
 use native.Mathlib.Omega.{arith}
-use borrow.Author.Rules.{rules}
-use Rattle.pair_following.specs.Following.{count_in}
 use Rattle.pair_following.proofs.ExclusionLaws.{inside_of}
 use Rattle.pair_following.proofs.StepLaws.{grown_still, grown_says, grown_none}
 use Rattle.pair_following.proofs.PlaceLaws.{grown_stuck, beyond}

@@ -3,7 +3,6 @@ use mathlib.Core.Path.{sym, ◌∙◌}
 use mathlib.Core.Logic.{inl, inr}
 use Rattle.pair_following.proofs.ExclusionLaws.{clash_there, clash_only, grown_put, trail_room, other_asks, other_inside}
 use Rattle.pair_following.proofs.StepLaws.{grown_still, grown_clash}
-use borrow.Author.Rules.{rules}
 use Rattle.pair_following.proofs.exclude.Goals as goal
 
 pub returns-then-e-f : goal.returns-then-e-f

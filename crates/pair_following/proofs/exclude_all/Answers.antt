@@ -1,6 +1,5 @@
 -- `pair_following::exclude_all` meets its contract: three calls in a row. Assumes nothing.
 use mathlib.Core.Path.{◌∙◌}
-use borrow.Author.Rules.{rules}
 use Rattle.pair_following.proofs.StepLaws.{grown_stops, grown_ok, grown_none}
 use Rattle.pair_following.proofs.PlaceLaws.{all_free}
 use Rattle.pair_following.proofs.exclude_all.Goals as goal

@@ -1,27 +1,15 @@
 -- `pair_following::follow` meets its contract. The loop's invariant: each placed entry has all others free, but for those on the trail
 -- from top on (`Chasing`, proofs/PlaceLaws.antt). The measure is what is left of the trail's room. Assumes nothing.
-use mathlib.Core.Path.{sym, ◌∙◌}
-use Prim.Native.Nat.{◌-◌}
 use native.Mathlib.Omega.{arith}
-use borrow.Author.Rules.{rules}
-use Rattle.pair_following.specs.Following.{count_in, pairs_of, progress_of}
 use Rattle.pair_following.proofs.ExclusionLaws.{room}
 use Rattle.pair_following.proofs.StepLaws.{grown_ok, grown_stops}
-use Rattle.pair_following.proofs.PlaceLaws.{Chasing, chase_start, chase_more, follow_end, follow_stop}
+use Rattle.pair_following.proofs.PlaceLaws.{chase_start, chase_more, follow_end, follow_stop}
 use Rattle.pair_following.proofs.follow.Goals as goal
-
-pub bounds-put-e : goal.bounds-put-e
-bounds-put-e c = let pre = c.requires in omega (arith, pre.ready.shape.puts, pre.unplaced.0)
 
 pub bounds-trail-n : goal.bounds-trail-n
 bounds-trail-n c =
     let pre = c.requires in
     omega (arith, pre.ready.shape.trails, room pre.ready.shape pre.unplaced.0 pre.unplaced.1 pre.unplaced.2)
-
-pub overflow_add-far : goal.overflow_add-far
-overflow_add-far c =
-    let pre = c.requires in
-    omega (arith, room pre.ready.shape pre.unplaced.0 pre.unplaced.1 pre.unplaced.2)
 
 pub loop-top-init : goal.loop-top-init
 loop-top-init c =
@@ -37,37 +25,15 @@ exclude_all-g-requires c =
     let pre = c.requires in
     let shape = c.loop-top.invariant.grown.shape in record { ready = record { holds = pre.ready.holds; links = pre.ready.links; shape = shape }; placed = (shape.inside _ c.loop-top-test.true, shape.placed _ c.loop-top-test.true) }
 
-pub overflow_add-top : goal.overflow_add-top
-overflow_add-top c =
-    omega (arith, c.loop-top.invariant.grown.shape.count, c.loop-top-test.true)
-
-pub loop-top-smaller : goal.loop-top-smaller
-loop-top-smaller c =
-    omega (arith, c.loop-top.invariant.grown.shape.count, c.loop-top-test.true)
-
 pub loop-top-preserved : goal.loop-top-preserved
 loop-top-preserved c =
     chase_more c.loop-top.invariant c.loop-top-test.true (grown_ok c.exclude_all-g.ensures c.if-g.true)
-
-pub shape_of-put-else-g : goal.shape_of-put-else-g
-shape_of-put-else-g c =
-    c.exclude_all-g.ensures.shape.puts ∙ sym c.requires.ready.shape.puts
-
-pub shape_of-trail-else-g : goal.shape_of-trail-else-g
-shape_of-trail-else-g c =
-    c.exclude_all-g.ensures.shape.trails ∙ sym c.requires.ready.shape.trails
 
 pub returns-else-g : goal.returns-else-g
 returns-else-g c =
     let pre = c.requires in
     follow_stop pre.ready.shape pre.closed pre.unplaced.0 pre.unplaced.1 pre.unplaced.2 pre.unplaced.3 {A = Unit {0}} c.if-g.false
     (grown_stops c.loop-top.invariant.grown c.exclude_all-g.ensures c.if-g.false)
-
-pub shape_of-put : goal.shape_of-put
-shape_of-put c = c.loop-top.invariant.grown.shape.puts ∙ sym c.requires.ready.shape.puts
-
-pub shape_of-trail : goal.shape_of-trail
-shape_of-trail c = c.loop-top.invariant.grown.shape.trails ∙ sym c.requires.ready.shape.trails
 
 pub returns : goal.returns
 returns c =

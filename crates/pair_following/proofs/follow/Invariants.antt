@@ -1,13 +1,8 @@
 -- `pair_following::follow` meets its contract. The loop's invariant: each placed entry has all others free, but for those on the trail
 -- from top on (`Chasing`, proofs/PlaceLaws.antt). The measure is what is left of the trail's room. Assumes nothing.
-use mathlib.Core.Path.{sym, ◌∙◌}
 use Prim.Native.Nat.{◌-◌}
-use native.Mathlib.Omega.{arith}
-use borrow.Author.Rules.{rules}
 use Rattle.pair_following.specs.Following.{count_in, pairs_of, progress_of}
-use Rattle.pair_following.proofs.ExclusionLaws.{room}
-use Rattle.pair_following.proofs.StepLaws.{grown_ok, grown_stops}
-use Rattle.pair_following.proofs.PlaceLaws.{Chasing, chase_start, chase_more, follow_end, follow_stop}
+use Rattle.pair_following.proofs.PlaceLaws.{Chasing}
 use Rattle.pair_following.proofs.follow.Given as goal
 
 abbrev pub invariant-loop-top : goal.invariant-loop-top

@@ -1,5 +1,4 @@
 -- `pair_following::goes` meets its contract: a law for each of its four outcomes. Assumes nothing.
-use borrow.Author.Rules.{rules}
 use Rattle.pair_following.proofs.ExclusionLaws.{goes_same, goes_on, goes_back, goes_far}
 use Rattle.pair_following.proofs.goes.Goals as goal
 

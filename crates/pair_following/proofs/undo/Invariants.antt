@@ -1,11 +1,8 @@
 -- `pair_following::undo` meets its contract. The loop's invariant is `Undoing` of proofs/UndoLaws.antt; the measure is what is left of the
 -- trail. Assumes nothing.
-use Prim.Native.Nat.{◌-◌, ◌<◌}
-use native.Mathlib.Omega.{arith}
-use lib.ListN.{length, get_or}
-use borrow.Author.Rules.{rules}
+use Prim.Native.Nat.{◌-◌}
 use Rattle.pair_following.specs.Following.{progress_of}
-use Rattle.pair_following.proofs.UndoLaws.{Undoing, undo_start, undo_more, undo_end}
+use Rattle.pair_following.proofs.UndoLaws.{Undoing}
 use Rattle.pair_following.proofs.undo.Given as goal
 
 abbrev pub invariant-loop-i : goal.invariant-loop-i

@@ -1,9 +1,7 @@
 -- `pair_forcing::count_up` keeps the length; it promises nothing of the counts. Assumes nothing.
-use mathlib.Core.Path.{◌≡◌, refl, ◌∙◌}
-use Prim.Native.Nat.{◌-◌, ◌*◌, ◌<◌}
+use mathlib.Core.Path.{refl, ◌∙◌}
+use Prim.Native.Nat.{◌*◌, ◌<◌}
 use native.Mathlib.Omega.{arith}
-use lib.ListN.{length}
-use borrow.Author.Rules.{rules}
 use Rattle.pair_following.specs.Following.{count_in}
 use Rattle.pair_forcing.proofs.count_up.Goals as goal
 
@@ -14,18 +12,6 @@ pub place_of-t-requires : goal.place_of-t-requires
 place_of-t-requires c =
     let in_range : c.loop-x.x < 2 * count_in c.args.card.now = omega (arith, c.loop-x-test.true) in
     in_range
-
-pub bump-requires : goal.bump-requires
-bump-requires c =
-    let in_range : c.loop-x.x < 2 * count_in c.args.card.now = omega (arith, c.loop-x-test.true) in
-    let pre = c.requires in
-    omega (arith, c.place_of-t.ensures, pre.1 _ in_range, pre.0, c.loop-x.invariant)
-
-pub overflow_add-x : goal.overflow_add-x
-overflow_add-x c = omega (arith, c.loop-x-test.true)
-
-pub loop-x-smaller : goal.loop-x-smaller
-loop-x-smaller c = omega (arith, c.loop-x-test.true)
 
 pub loop-x-preserved : goal.loop-x-preserved
 loop-x-preserved c = c.bump.ensures ∙ c.loop-x.invariant

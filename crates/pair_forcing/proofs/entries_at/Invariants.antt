@@ -1,13 +1,9 @@
 -- `pair_forcing::entries_at` meets its contract. The loop goes through the list of t (`Listing`). Assumes nothing.
-use mathlib.Core.Logic.{◌⊎◌, inl, inr, ⊎_elim}
 use Prim.Native.Nat.{ℕ}
-use borrow.Author.Rules.{rules}
 use Rattle.pair_following.specs.Following.{nth, pairs_of}
 use Rattle.pair_following.specs.Common.{Common}
 use Rattle.pair_forcing.specs.Forcing.{keyed}
-use Rattle.pair_following.proofs.Slots.{Listing, list_start, list_none, slot_low, list_entry, list_more, list_less, list_next}
-use Rattle.pair_following.proofs.CommonLaws.{common_start, common_end}
-use Rattle.pair_forcing.proofs.SureLaws.{entry_also}
+use Rattle.pair_following.proofs.Slots.{Listing}
 use Rattle.pair_forcing.proofs.entries_at.Given as goal
 
 abbrev pub invariant-loop-k : goal.invariant-loop-k

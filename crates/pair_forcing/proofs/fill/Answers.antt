@@ -1,9 +1,8 @@
 -- `pair_forcing::fill` meets its contract. Assumes nothing.
 use mathlib.Core.Path.{◌≡◌, ap, ◌∙◌}
-use Prim.Native.Nat.{ℕ, ◌+◌, ◌-◌, ◌<◌, ◌≤◌}
+use Prim.Native.Nat.{ℕ, ◌<◌, ◌≤◌}
 use native.Mathlib.Omega.{arith}
 use lib.ListN.{length, set, replicate, drop, length-replicate}
-use borrow.Author.Rules.{rules}
 use borrow.Author.Fill.{fill_none, fill_more}
 use mathlib.Core.List.{List, ◌++◌, append-nil}
 use lib.Seq.{drop-length}
@@ -18,13 +17,6 @@ whole s s₀ i v h l e = let x : i ≡ length s₀ = omega (arith, long s s₀ i
 
 pub loop-i-init : goal.loop-i-init
 loop-i-init c = (omega arith, fill_none _ c.args.v)
-
-pub bounds-s-i : goal.bounds-s-i
-bounds-s-i c = c.loop-i-test.true
-
-pub loop-i-smaller : goal.loop-i-smaller
-loop-i-smaller c =
-    omega (arith, c.loop-i-test.true, long _ _ _ _ c.loop-i.invariant.0 c.loop-i.invariant.1)
 
 pub loop-i-preserved : goal.loop-i-preserved
 loop-i-preserved c =

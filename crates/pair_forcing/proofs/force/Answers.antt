@@ -1,7 +1,6 @@
 -- `pair_forcing::force` meets its contract: a law of proofs/SureLaws.antt for each outcome. Assumes nothing.
 use Rattle.pair_following.proofs.ExclusionLaws.{inside_of}
 use Rattle.pair_forcing.proofs.SureLaws.{force_none, force_still, force_one}
-use borrow.Author.Rules.{rules}
 use Rattle.pair_forcing.proofs.force.Goals as goal
 
 pub returns-then-s-eq0 : goal.returns-then-s-eq0

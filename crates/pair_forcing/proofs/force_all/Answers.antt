@@ -1,11 +1,8 @@
 -- `pair_forcing::force_all` meets its contract. Assumes nothing.
-use mathlib.Core.Path.{sym, ◌∙◌}
-use mathlib.Core.Bool.{true, false, true≢false}
-use Prim.Native.Nat.{◌-◌, ◌<◌}
+use mathlib.Core.Bool.{true≢false}
+use Prim.Native.Nat.{◌<◌}
 use native.Mathlib.Omega.{arith}
-use borrow.Author.Rules.{rules}
-use Rattle.pair_following.specs.Following.{nth, count_in, pairs_of, progress_of, Trail}
-use Rattle.pair_forcing.specs.Forcing.{Sure}
+use Rattle.pair_following.specs.Following.{count_in}
 use Rattle.pair_forcing.proofs.force_all.Goals as goal
 
 pub loop-t-init : goal.loop-t-init
@@ -36,22 +33,8 @@ loop-t-smaller c =
 pub loop-t-preserved : goal.loop-t-preserved
 loop-t-preserved c = let g = c.force_if-g.ensures in (g.shape, g.good c.if-g.true)
 
-pub shape_of-put-else-g : goal.shape_of-put-else-g
-shape_of-put-else-g c =
-    c.force_if-g.ensures.shape.puts ∙ sym c.requires.ready.shape.puts
-
-pub shape_of-trail-else-g : goal.shape_of-trail-else-g
-shape_of-trail-else-g c =
-    c.force_if-g.ensures.shape.trails ∙ sym c.requires.ready.shape.trails
-
 pub returns-else-g : goal.returns-else-g
 returns-else-g c = c.force_if-g.ensures
-
-pub shape_of-put : goal.shape_of-put
-shape_of-put c = c.loop-t.invariant.0.puts ∙ sym c.requires.ready.shape.puts
-
-pub shape_of-trail : goal.shape_of-trail
-shape_of-trail c = c.loop-t.invariant.0.trails ∙ sym c.requires.ready.shape.trails
 
 pub returns : goal.returns
 returns c = record { shape = c.loop-t.invariant.0; good = λ _. c.loop-t.invariant.1; bad = λ x. absurd (true≢false x) }

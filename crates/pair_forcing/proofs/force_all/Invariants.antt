@@ -1,9 +1,5 @@
 -- `pair_forcing::force_all` meets its contract. Assumes nothing.
-use mathlib.Core.Path.{sym, ◌∙◌}
-use mathlib.Core.Bool.{true, false, true≢false}
-use Prim.Native.Nat.{◌-◌, ◌<◌}
-use native.Mathlib.Omega.{arith}
-use borrow.Author.Rules.{rules}
+use Prim.Native.Nat.{◌-◌}
 use Rattle.pair_following.specs.Following.{nth, count_in, pairs_of, progress_of, Trail}
 use Rattle.pair_forcing.specs.Forcing.{Sure}
 use Rattle.pair_forcing.proofs.force_all.Given as goal

@@ -1,6 +1,5 @@
 -- `pair_forcing::force_before_choice` meets its contract: the calls in a row. Assumes nothing.
 use mathlib.Core.Path.{◌∙◌}
-use borrow.Author.Rules.{rules}
 use Rattle.pair_forcing.proofs.force_before_choice.Goals as goal
 
 pub count_up-requires : goal.count_up-requires

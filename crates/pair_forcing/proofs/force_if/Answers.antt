@@ -1,6 +1,5 @@
 -- `pair_forcing::force_if` meets its contract. Assumes nothing.
 use mathlib.Core.Bool.{true≢false}
-use borrow.Author.Rules.{rules}
 use Rattle.pair_forcing.proofs.force_if.Goals as goal
 
 pub returns : goal.returns

@@ -2,7 +2,6 @@
 use mathlib.Core.Path.{sym, ◌∙◌}
 use mathlib.Core.Logic.{inl, inr}
 use borrow.Author.Tests.{eqb-true}
-use borrow.Author.Rules.{rules}
 use Rattle.pair_forcing.proofs.has_place.Goals as goal
 
 pub returns-then-place_of-t : goal.returns-then-place_of-t

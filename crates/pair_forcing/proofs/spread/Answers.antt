@@ -1,25 +1,14 @@
 -- `pair_forcing::spread` meets its contract. Assumes nothing.
-use mathlib.Core.Path.{◌≡◌, sym, ◌∙◌}
-use mathlib.Core.Bool.{true, false, true≢false}
-use Prim.Native.Nat.{◌-◌, ◌<◌}
+use mathlib.Core.Path.{◌∙◌}
+use mathlib.Core.Bool.{true≢false}
+use Prim.Native.Nat.{◌<◌}
 use native.Mathlib.Omega.{arith}
-use lib.ListN.{length}
-use Rattle.pair_following.specs.Following.{nth, count_in, pairs_of, progress_of, Trail}
-use Rattle.pair_forcing.specs.Forcing.{Sure}
+use Rattle.pair_following.specs.Following.{count_in}
 use Rattle.pair_following.proofs.ExclusionLaws.{other_asks, other_inside}
 use Rattle.pair_forcing.proofs.spread.Goals as goal
 
 pub loop-seen-init : goal.loop-seen-init
 loop-seen-init c = let pre = c.requires in (pre.ready.shape, pre.sure, pre.count_len)
-
-pub offset_bounds-trail-seen : goal.offset_bounds-trail-seen
-offset_bounds-trail-seen c = omega (arith, c.loop-seen-test.true, c.loop-seen.invariant.0.count)
-
-pub bounds-trail-seen : goal.bounds-trail-seen
-bounds-trail-seen c = omega (arith, c.loop-seen-test.true, c.loop-seen.invariant.0.count, c.loop-seen.invariant.0.trails)
-
-pub offset_bounds-put-e : goal.offset_bounds-put-e
-offset_bounds-put-e c = omega (arith, c.loop-seen.invariant.0.inside _ c.loop-seen-test.true)
 
 pub bounds-put-e : goal.bounds-put-e
 bounds-put-e c =
@@ -44,41 +33,13 @@ force_if-g-requires c =
     let inv = c.loop-seen.invariant in
     record { ready = record { holds = pre.ready.holds; links = pre.ready.links; shape = inv.0 }; sure = inv.1; t_bound = low }
 
-pub overflow_add-seen : goal.overflow_add-seen
-overflow_add-seen c =
-    omega (arith, c.loop-seen-test.true, c.loop-seen.invariant.0.count)
-
-pub loop-seen-smaller : goal.loop-seen-smaller
-loop-seen-smaller c = omega (arith, c.loop-seen-test.true, c.loop-seen.invariant.0.count)
-
 pub loop-seen-preserved : goal.loop-seen-preserved
 loop-seen-preserved c =
     let g = c.force_if-g.ensures in
     (g.shape, g.good c.if-g.true, c.fewer-few.ensures ∙ c.loop-seen.invariant.2)
 
-pub shape_of-put-else-g : goal.shape_of-put-else-g
-shape_of-put-else-g c =
-    c.force_if-g.ensures.shape.puts ∙ sym c.requires.ready.shape.puts
-
-pub shape_of-trail-else-g : goal.shape_of-trail-else-g
-shape_of-trail-else-g c =
-    c.force_if-g.ensures.shape.trails ∙ sym c.requires.ready.shape.trails
-
-pub shape_of-count-else-g : goal.shape_of-count-else-g
-shape_of-count-else-g c =
-    c.fewer-few.ensures ∙ c.loop-seen.invariant.2 ∙ sym c.requires.count_len
-
 pub returns-else-g : goal.returns-else-g
 returns-else-g c = c.force_if-g.ensures
-
-pub shape_of-put : goal.shape_of-put
-shape_of-put c = c.loop-seen.invariant.0.puts ∙ sym c.requires.ready.shape.puts
-
-pub shape_of-trail : goal.shape_of-trail
-shape_of-trail c = c.loop-seen.invariant.0.trails ∙ sym c.requires.ready.shape.trails
-
-pub shape_of-count : goal.shape_of-count
-shape_of-count c = c.loop-seen.invariant.2 ∙ sym c.requires.count_len
 
 pub returns : goal.returns
 returns c = record { shape = c.loop-seen.invariant.0; good = λ _. c.loop-seen.invariant.1; bad = λ x. absurd (true≢false x) }

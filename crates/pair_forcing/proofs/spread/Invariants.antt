@@ -1,12 +1,9 @@
 -- `pair_forcing::spread` meets its contract. Assumes nothing.
-use mathlib.Core.Path.{◌≡◌, sym, ◌∙◌}
-use mathlib.Core.Bool.{true, false, true≢false}
-use Prim.Native.Nat.{◌-◌, ◌<◌}
-use native.Mathlib.Omega.{arith}
+use mathlib.Core.Path.{◌≡◌}
+use Prim.Native.Nat.{◌-◌}
 use lib.ListN.{length}
 use Rattle.pair_following.specs.Following.{nth, count_in, pairs_of, progress_of, Trail}
 use Rattle.pair_forcing.specs.Forcing.{Sure}
-use Rattle.pair_following.proofs.ExclusionLaws.{other_asks, other_inside}
 use Rattle.pair_forcing.proofs.spread.Given as goal
 
 abbrev pub invariant-loop-seen : goal.invariant-loop-seen

@@ -1,7 +1,6 @@
 -- `pair_forcing::with_entry` meets its contract. Assumes nothing.
 use mathlib.Core.Path.{refl}
 use mathlib.Core.Logic.{inl, inr}
-use borrow.Author.Rules.{rules}
 use Rattle.pair_forcing.proofs.with_entry.Goals as goal
 
 pub returns-then-s-eq0 : goal.returns-then-s-eq0

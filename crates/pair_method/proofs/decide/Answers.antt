@@ -1,7 +1,6 @@
 -- `pair_method::decide` meets its contract: the calls in a row (proofs/Built.antt). Assumes nothing.
 use Rattle.pair_following.proofs.ExclusionLaws.{inside_of}
 use Rattle.pair_method.proofs.Built.{forced, builds_found, builds_none}
-use borrow.Author.Rules.{rules}
 use Rattle.pair_method.proofs.decide.Goals as goal
 
 pub choose_all-a-requires : goal.choose_all-a-requires

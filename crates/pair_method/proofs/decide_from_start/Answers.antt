@@ -1,6 +1,5 @@
 -- `pair_method::decide_from_start` meets its contract: no entry is placed, and then `decide` (proofs/Built.antt). Assumes nothing.
 use Rattle.pair_method.proofs.Built.{begin}
-use borrow.Author.Rules.{rules}
 use Rattle.pair_method.proofs.decide_from_start.Goals as goal
 
 pub decide-requires : goal.decide-requires

@@ -1,6 +1,5 @@
 -- `pair_method::enter` meets its contract. Assumes nothing.
 use mathlib.Core.Path.{refl}
-use borrow.Author.Rules.{rules}
 use Rattle.pair_method.proofs.EnterLaws.{room_2, room_3}
 use Rattle.pair_method.proofs.enter.Goals as goal
 

@@ -1,10 +1,7 @@
 -- `pair_method::enter_all` meets its contract. The loop's invariant is `Entering` of proofs/EnterLaws.antt. Assumes nothing.
-use mathlib.Core.Path.{refl, sym, ◌∙◌}
 use Prim.Native.Nat.{◌-◌}
-use native.Mathlib.Omega.{arith}
 use lib.ListN.{length}
-use borrow.Author.Rules.{rules}
-use Rattle.pair_method.proofs.EnterLaws.{Entering, entering_start, entering_more, entering_end, enter_room}
+use Rattle.pair_method.proofs.EnterLaws.{Entering}
 use Rattle.pair_method.proofs.enter_all.Given as goal
 
 abbrev pub invariant-loop-e : goal.invariant-loop-e

@@ -2,7 +2,6 @@
 use mathlib.Core.Path.{sym}
 use lib.Seq.{length-take-le}
 use Rattle.pair_method.proofs.Built.{part_all}
-use borrow.Author.Rules.{rules}
 use Rattle.pair_method.proofs.from_card.Goals as goal
 
 pub slice_bounds-decide_from_start-end : goal.slice_bounds-decide_from_start-end

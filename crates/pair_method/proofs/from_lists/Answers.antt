@@ -3,18 +3,10 @@
 use mathlib.Core.Path.{◌≡◌, sym, ◌∙◌}
 use Prim.Native.Nat.{suc, ◌-◌, ◌^◌}
 use native.Mathlib.Omega.{arith}
-use borrow.Author.Rules.{rules}
-use Rattle.card_entries.proofs.HoldLaws.{some_letter, few_letters}
 use Rattle.build_sequence.proofs.LetterLaws.{pow_pos}
 use Rattle.pair_method.proofs.LinkLaws.{linked_has}
 use Rattle.pair_method.proofs.CardLaws.{many, card_of_lem, link_asks, gives}
 use Rattle.pair_method.proofs.from_lists.Goals as goal
-
-pub overflow_sub-l : goal.overflow_sub-l
-overflow_sub-l c = omega (arith, some_letter c.requires.pair_lists)
-
-pub words_of-mask-requires : goal.words_of-mask-requires
-words_of-mask-requires c = omega (arith, few_letters c.requires.pair_lists)
 
 pub overflow_sub-mask : goal.overflow_sub-mask
 overflow_sub-mask c = omega (arith, c.words_of-mask.ensures, pow_pos (c.args.l - 1))

@@ -1,9 +1,8 @@
 -- `pair_method::link` meets its contract. The loop's invariant is `Linking` of proofs/LinkLaws.antt. Assumes nothing.
-use Prim.Native.Nat.{◌-◌, ◌*◌, ◌<◌}
+use Prim.Native.Nat.{◌*◌, ◌<◌}
 use native.Mathlib.Omega.{arith}
-use borrow.Author.Rules.{rules}
 use Rattle.pair_following.specs.Following.{count_in}
-use Rattle.pair_method.proofs.LinkLaws.{Linking, linking_start, linking_more, linking_end, slot_in, prev_room, place_in_lem, last_room_after}
+use Rattle.pair_method.proofs.LinkLaws.{linking_start, linking_more, linking_end, slot_in, prev_room, place_in_lem, last_room_after}
 use Rattle.pair_method.proofs.link.Goals as goal
 
 pub loop-x-init : goal.loop-x-init
@@ -19,30 +18,10 @@ last_slot-before-requires c =
     let low : c.place_of-t.result < count_in c.loop-x.card = let in_range : c.loop-x.x < 2 * count_in c.args.card.now = omega (arith, c.loop-x-test.true) in place_in_lem c.loop-x.invariant in_range c.place_of-t.ensures (c.requires.0 _ in_range) in
     low
 
-pub overflow_mul-card : goal.overflow_mul-card
-overflow_mul-card c =
-    let in_range : c.loop-x.x < 2 * count_in c.args.card.now = omega (arith, c.loop-x-test.true) in
-    omega (arith, in_range)
-
-pub overflow_add-card : goal.overflow_add-card
-overflow_add-card c =
-    let in_range : c.loop-x.x < 2 * count_in c.args.card.now = omega (arith, c.loop-x-test.true) in
-    omega (arith, in_range)
-
-pub offset_bounds-card-x : goal.offset_bounds-card-x
-offset_bounds-card-x c =
-    let in_range : c.loop-x.x < 2 * count_in c.args.card.now = omega (arith, c.loop-x-test.true) in
-    omega (arith, in_range)
-
 pub bounds-card-x : goal.bounds-card-x
 bounds-card-x c =
     let in_range : c.loop-x.x < 2 * count_in c.args.card.now = omega (arith, c.loop-x-test.true) in
     prev_room c.loop-x.invariant in_range
-
-pub overflow_add-card-in-loop-x : goal.overflow_add-card-in-loop-x
-overflow_add-card-in-loop-x c =
-    let in_range : c.loop-x.x < 2 * count_in c.args.card.now = omega (arith, c.loop-x-test.true) in
-    omega (arith, in_range)
 
 pub overflow_mul-card-in-loop-x : goal.overflow_mul-card-in-loop-x
 overflow_mul-card-in-loop-x c =
@@ -64,21 +43,10 @@ bounds-card-t c =
     let in_range : c.loop-x.x < 2 * count_in c.args.card.now = omega (arith, c.loop-x-test.true) in
     last_room_after c.loop-x.invariant in_range c.place_of-t.ensures (c.requires.0 _ in_range) _
 
-pub overflow_add-x : goal.overflow_add-x
-overflow_add-x c =
-    let in_range : c.loop-x.x < 2 * count_in c.args.card.now = omega (arith, c.loop-x-test.true) in
-    omega (arith, in_range)
-
-pub loop-x-smaller : goal.loop-x-smaller
-loop-x-smaller c = omega (arith, c.loop-x-test.true)
-
 pub loop-x-preserved : goal.loop-x-preserved
 loop-x-preserved c =
     let in_range : c.loop-x.x < 2 * count_in c.args.card.now = omega (arith, c.loop-x-test.true) in
     linking_more c.loop-x.invariant in_range c.place_of-t.ensures (c.requires.0 _ in_range) c.last_slot-before.ensures
-
-pub shape_of-card : goal.shape_of-card
-shape_of-card c = c.loop-x.invariant.size
 
 pub returns : goal.returns
 returns c = linking_end c.loop-x.invariant (omega (arith, c.loop-x-test.false))

@@ -1,6 +1,5 @@
 -- `pair_method::second` meets its contract. Assumes nothing.
 use mathlib.Core.Path.{◌∙◌}
-use borrow.Author.Rules.{rules}
 use Rattle.pair_method.proofs.PlacesLaws.{second_none, second_two}
 use Rattle.pair_method.proofs.second.Goals as goal
 

@@ -1,6 +1,5 @@
 -- `pair_method::settle` meets its contract: what is answered by what is found. Assumes nothing.
 use Rattle.pair_method.proofs.AnswerLaws.{found_right}
-use borrow.Author.Rules.{rules}
 use Rattle.pair_method.proofs.settle.Goals as goal
 
 pub returns : goal.returns

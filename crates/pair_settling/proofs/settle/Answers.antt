@@ -5,7 +5,6 @@ use native.Mathlib.Omega.{arith}
 use Rattle.pair_following.specs.Following.{count_in}
 use Rattle.pair_following.proofs.ExclusionLaws.{one_inside, two_inside}
 use Rattle.pair_settling.proofs.Settled.{place_had, place_one, place_two, undone}
-use borrow.Author.Rules.{rules}
 use Rattle.pair_settling.proofs.settle.Goals as goal
 
 pub returns-then-put-e : goal.returns-then-put-e

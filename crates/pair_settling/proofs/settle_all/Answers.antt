@@ -1,9 +1,9 @@
 -- `pair_settling::settle_all` meets its contract. The loop's invariant is `Settling` of proofs/Settled.antt. Assumes nothing.
-use mathlib.Core.Path.{refl, sym, ◌∙◌}
-use Prim.Native.Nat.{◌-◌, ◌<◌}
+use mathlib.Core.Path.{refl}
+use Prim.Native.Nat.{◌<◌}
 use native.Mathlib.Omega.{arith}
-use Rattle.pair_following.specs.Following.{count_in, pairs_of, progress_of}
-use Rattle.pair_settling.proofs.Settled.{Settling, settling_more, settled_all, settled_none}
+use Rattle.pair_following.specs.Following.{count_in}
+use Rattle.pair_settling.proofs.Settled.{settling_more, settled_all, settled_none}
 use Rattle.pair_settling.proofs.settle_all.Goals as goal
 
 pub loop-e-init : goal.loop-e-init
@@ -32,22 +32,8 @@ pub loop-e-preserved : goal.loop-e-preserved
 loop-e-preserved c =
     settling_more c.loop-e.invariant c.settle-g.ensures c.if-g.true
 
-pub shape_of-put-else-g : goal.shape_of-put-else-g
-shape_of-put-else-g c =
-    c.settle-g.ensures.shape.puts ∙ sym c.requires.ready.shape.puts
-
-pub shape_of-trail-else-g : goal.shape_of-trail-else-g
-shape_of-trail-else-g c =
-    c.settle-g.ensures.shape.trails ∙ sym c.requires.ready.shape.trails
-
 pub returns-else-g : goal.returns-else-g
 returns-else-g c = settled_none (c.settle-g.ensures.bad c.if-g.false)
-
-pub shape_of-put : goal.shape_of-put
-shape_of-put c = c.loop-e.invariant.shape.puts ∙ sym c.requires.ready.shape.puts
-
-pub shape_of-trail : goal.shape_of-trail
-shape_of-trail c = c.loop-e.invariant.shape.trails ∙ sym c.requires.ready.shape.trails
 
 pub returns : goal.returns
 returns c = settled_all c.loop-e.invariant (rw c.loop-e.invariant.shape.puts at c.loop-e-test.false)

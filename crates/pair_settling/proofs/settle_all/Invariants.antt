@@ -1,9 +1,7 @@
 -- `pair_settling::settle_all` meets its contract. The loop's invariant is `Settling` of proofs/Settled.antt. Assumes nothing.
-use mathlib.Core.Path.{refl, sym, ◌∙◌}
-use Prim.Native.Nat.{◌-◌, ◌<◌}
-use native.Mathlib.Omega.{arith}
+use Prim.Native.Nat.{◌-◌}
 use Rattle.pair_following.specs.Following.{count_in, pairs_of, progress_of}
-use Rattle.pair_settling.proofs.Settled.{Settling, settling_more, settled_all, settled_none}
+use Rattle.pair_settling.proofs.Settled.{Settling}
 use Rattle.pair_settling.proofs.settle_all.Given as goal
 
 abbrev pub invariant-loop-e : goal.invariant-loop-e
