@@ -1,5 +1,4 @@
 -- `read_lines` meets its contract. Assumes nothing.
--- ---- the places, and what is known there
 use mathlib.Core.Path.{◌≡◌, ap, ◌∙◌}
 use mathlib.Core.Bool.{true}
 use mathlib.Core.List.{List}
@@ -24,7 +23,7 @@ counted : (k : ℕ) (xs r : List ℕ) → xs ≡ body_in r → is_body (body_in 
     → k ≡ length xs - ((length xs - 1) / (line_letters + 1) + 1) → k ≡ length (letters_in (body_in r))
 counted k xs r same held e = e ∙ rw same (letters_among (body_in r) held).1
 
--- ---- the needs
+-- ---- the goals
 
 pub overflow_add-at : goal.overflow_add-at
 overflow_add-at c = omega (arith, goes_on _ _ c.requires.0 c.requires.1)

@@ -1,5 +1,4 @@
 -- `put_record` meets its contract: part after part. Assumes nothing.
--- ---- the places, and what is known there
 use mathlib.Core.Path.{◌∙◌}
 use native.Mathlib.Omega.{arith}
 use mathlib.Core.List.{List, [], ◌∷◌}
@@ -20,7 +19,7 @@ long name letters out h = omega (arith, length_record name letters, length_lines
 marked : (name letters out : List ℕ) → length (record_of name letters) ≤ length out → Put (mark ∷ []) 0 out 1 (set out 0 mark)
 marked name letters out h = put_byte out 0 mark (omega (arith, long name letters out h))
 
--- ---- the needs
+-- ---- the goals
 
 pub bounds-out-0 : goal.bounds-out-0
 bounds-out-0 c = omega (arith, long _ _ _ c.requires)
