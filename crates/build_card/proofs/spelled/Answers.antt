@@ -1,5 +1,4 @@
 -- `spelled` meets its contract, verdict by verdict. Assumes nothing.
-use borrow.Author.Rules.{rules}
 use Rattle.build_card.proofs.FromLaws.{spelled_sole, spelled_several, spelled_none, spelled_unsettled}
 use Rattle.build_card.proofs.spelled.Goals as goal
 
