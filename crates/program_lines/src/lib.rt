@@ -38,10 +38,10 @@ fn put_kind(out: &mut [u8], at: usize, kind: usize) -> usize
 
 // Line 1.
 fn put_card(out: &mut [u8], card: &[u8]) -> usize
-    requires block_bytes_in_bounds { block_bytes ≤ length card.now }
-    requires card_room_in_bounds { card_room ≤ length out.old }
+    requires there { block_bytes ≤ length card.now }
+    requires room { card_room ≤ length out.old }
     ensures put { Put (card_line (told_by card.now)) 0 out.old result out.new }
-    ensures upper_bound { result ≤ card_room }
+    ensures within { result ≤ card_room }
 {
     let f = card_layout::told_by(card);
     let kind_at = base_text::put_text(out, 0, b"CARD ");
@@ -52,7 +52,7 @@ fn put_card(out: &mut [u8], card: &[u8]) -> usize
 // The lines by an answer, and by the letters that it left.
 fn put_answer(out: &mut [u8; LINES], card: &[u8], answer: BuildAnswer, letters: &[u8]) -> usize
     requires tellable { Tellable card.now answer letters.now }
-    requires letters_len_bound { length letters.now ≤ letters_room most_entries }
+    requires few_letters { length letters.now ≤ letters_room most_entries }
     ensures { Put (lines_by (told_by card.now) answer letters.now) 0 out.old result out.new }
 {
     match answer {

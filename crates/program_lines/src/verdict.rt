@@ -31,8 +31,8 @@ fn put_placements(out: &mut [u8], at: usize, verdict: &[u8], n: u32) -> usize
 
 // The line by an answer, and by the letters that it left; nothing where it is a refusal.
 pub fn put(out: &mut [u8], at: usize, answer: BuildAnswer, letters: &[u8]) -> usize
-    requires answer_in_bounds { length_in answer ≤ length letters.now }
-    requires letters_in_bounds { at + verdict_room (length letters.now) ≤ length out.old }
+    requires letters_there { length_in answer ≤ length letters.now }
+    requires room { at + verdict_room (length letters.now) ≤ length out.old }
     ensures { Put (verdict_by answer letters.now) at out.old result out.new }
 {
     match answer {

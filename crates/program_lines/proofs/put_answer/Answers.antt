@@ -4,8 +4,8 @@ use Rattle.base_text.proofs.PuttingLaws.{put_then}
 use Rattle.program_lines.proofs.ReportLaws.{refused_lines, given_lines, given_other}
 use Rattle.program_lines.proofs.put_answer.Goals as goal
 
-pub put_card-at-requires-clause-block_bytes_in_bounds : goal.put_card-at-requires-clause-block_bytes_in_bounds
-put_card-at-requires-clause-block_bytes_in_bounds c = c.requires.tellable.there (given_other _ c.in_default.not-Refused)
+pub put_card-at-requires-clause-there : goal.put_card-at-requires-clause-there
+put_card-at-requires-clause-there c = c.requires.tellable.there (given_other _ c.in_default.not-Refused)
 
 pub returns-in-Refused : goal.returns-in-Refused
 returns-in-Refused c = refused_lines _ _ c.in-Refused.is c.put_refused.ensures

@@ -15,8 +15,8 @@ slice_bounds-letters-end c = length_case c.in-Sole.is (build_tellable c.build-an
 pub slice_bounds-put_record-end : goal.slice_bounds-put_record-end
 slice_bounds-put_record-end c = sym (length-take-le _ _ (length_case c.in-Sole.is (build_tellable c.build-answer.ensures).letters_in_lem))
 
-pub put-errors-requires-clause-answer_in_bounds : goal.put-errors-requires-clause-answer_in_bounds
-put-errors-requires-clause-answer_in_bounds c = (build_tellable c.build-answer.ensures).letters_in_lem
+pub put-errors-requires-clause-letters_there : goal.put-errors-requires-clause-letters_there
+put-errors-requires-clause-letters_there c = (build_tellable c.build-answer.ensures).letters_in_lem
 
 -- ---- each case
 

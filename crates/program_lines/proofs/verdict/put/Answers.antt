@@ -10,16 +10,16 @@ use Rattle.program_lines.proofs.verdict.put.Goals as goal
 -- ---- the sequence is a part of the letters, and its line has room
 
 pub slice_bounds-put_sequence-end-in-Sole : goal.slice_bounds-put_sequence-end-in-Sole
-slice_bounds-put_sequence-end-in-Sole c = sym (length-take-le _ _ (length_case c.in-Sole.is c.requires.answer_in_bounds))
+slice_bounds-put_sequence-end-in-Sole c = sym (length-take-le _ _ (length_case c.in-Sole.is c.requires.letters_there))
 
 pub put_sequence-requires : goal.put_sequence-requires
-put_sequence-requires c = simp length-take (omega (arith, c.requires.letters_in_bounds))
+put_sequence-requires c = simp length-take (omega (arith, c.requires.room))
 
 pub slice_bounds-put_sequence-end-in-Several-2 : goal.slice_bounds-put_sequence-end-in-Several-2
-slice_bounds-put_sequence-end-in-Several-2 c = sym (length-take-le _ _ (length_case c.in-Several.is c.requires.answer_in_bounds))
+slice_bounds-put_sequence-end-in-Several-2 c = sym (length-take-le _ _ (length_case c.in-Several.is c.requires.letters_there))
 
 pub put_sequence-requires-in-Several : goal.put_sequence-requires-in-Several
-put_sequence-requires-in-Several c = simp length-take (omega (arith, c.requires.letters_in_bounds))
+put_sequence-requires-in-Several c = simp length-take (omega (arith, c.requires.room))
 
 -- ---- each case
 
@@ -36,4 +36,4 @@ pub returns-in-Unsettled : goal.returns-in-Unsettled
 returns-in-Unsettled c = verdict_case c.in-Unsettled.is _ c.put_placements-in-Unsettled.ensures
 
 pub returns-in-Refused : goal.returns-in-Refused
-returns-in-Refused c = verdict_case c.in-Refused.is _ (put_nothing _ _ (omega (arith, c.requires.letters_in_bounds)))
+returns-in-Refused c = verdict_case c.in-Refused.is _ (put_nothing _ _ (omega (arith, c.requires.room)))
