@@ -16,7 +16,6 @@ use Rattle.card_entries.specs.Bounds.{most_entries}
 use Rattle.card_layout.specs.Layout.{told_by, slots_on}
 use Rattle.base_lists.specs.Members.{Paired}
 use Rattle.build_sequence.specs.Verdict.{Before, Verdict, sole, several, no_build, Outcome, settled, unsettled, Widens}
-use Rattle.span_theory.specs.Settling as spans
 use Rattle.span_theory.specs.Compared.{NoLaterIf, Narrowed}
 use Rattle.span_theory.proofs.Compare as spans_compare
 use Rattle.pair_theory.specs.Settling as pairs
