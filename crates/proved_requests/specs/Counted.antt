@@ -9,7 +9,7 @@ use Rattle.card_entries.specs.Fault.{pair}
 use Rattle.card_entries.specs.Bounds.{most_entries}
 use Rattle.card_layout.specs.Layout.{told_by}
 use Rattle.card_reader.specs.Reading.{reading_order}
-use Rattle.build_sequence.specs.Many.{Many, Power}
+use Rattle.build_sequence.specs.Many.{Many}
 use Rattle.build_card.specs.declared.BuildAnswer.{BuildAnswer}
 use Rattle.build_card.specs.declared.BuildAnswer.TheVariants as build
 use Rattle.build_count.specs.declared.Number.{Number}
