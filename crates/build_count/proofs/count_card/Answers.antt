@@ -2,18 +2,20 @@
 use native.Mathlib.Omega.{arith}
 use Rattle.build_card.proofs.CardLaws.{listed_few, listed_hold}
 use Rattle.build_count.proofs.CardLaws.{listed_counts, card_refused}
-use borrow.Author.Rules.{rules}
 use Rattle.build_count.proofs.count_card.Goals as goal
 
 pub count_listed-requires : goal.count_listed-requires
 count_listed-requires c =
-            let did = c.admit_into.ensures in
+    let did = c.admit_into.ensures in
     let is = c.in-Card.is in
-    let few = listed_few did is in record { m_in_bounds = (
+    let few = listed_few did is in record {
+      m_in_bounds = (
         omega (arith, few),
         omega (arith, few),
         omega (arith, few),
-      ); lists_hold = listed_hold did is }
+      );
+      lists_hold = listed_hold did is;
+    }
 
 pub returns-in-Card : goal.returns-in-Card
 returns-in-Card c =

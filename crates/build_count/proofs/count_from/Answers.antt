@@ -3,7 +3,6 @@ use native.Mathlib.Omega.{arith}
 use Rattle.pair_method.specs.PairMethod.{power_by}
 use Rattle.card_entries.proofs.HoldLaws.{hold_kind, lists_of_kind, few_entries}
 use Rattle.build_count.specs.ByKind.{on_pairs}
-use borrow.Author.Rules.{rules}
 use Rattle.build_count.proofs.count_from.Goals as goal
 
 pub pair-requires : goal.pair-requires
@@ -12,6 +11,6 @@ pair-requires c =
 
 pub returns : goal.returns
 returns c =
-        let found = c.pair in
+    let found = c.pair in
     on_pairs (power_by found.result.found found.result.choices)
     (hold_kind c.requires.hold (λ e. omega arith)) found.ensures.many c.number_by.ensures

@@ -1,7 +1,6 @@
 -- `count_listed` meets its contract: the first m slots of each list. Assumes nothing.
 use native.Mathlib.Omega.{arith}
 use lib.ListN.{length-take}
-use borrow.Author.Rules.{rules}
 use Rattle.build_count.proofs.count_listed.Goals as goal
 
 pub slice_bounds-count_from-end : goal.slice_bounds-count_from-end

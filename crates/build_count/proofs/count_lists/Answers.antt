@@ -2,7 +2,6 @@
 use Rattle.base_answers.proofs.Laws.{told_holds, told_refused}
 use Rattle.card_lists.proofs.Laws.{lists_held}
 use Rattle.build_count.proofs.CountingLaws.{refused_counts, kind_counts}
-use borrow.Author.Rules.{rules}
 use Rattle.build_count.proofs.count_lists.Goals as goal
 
 pub count_from-requires : goal.count_from-requires

@@ -11,7 +11,6 @@ use Rattle.card_lists.proofs.Laws.{held_lists}
 use Rattle.build_narrow.specs.Passing.{PassesTests}
 use Rattle.build_narrow.proofs.TestLaws.{lists_no_room, lists_has_room}
 use Rattle.build_narrow.proofs.SettlingLaws.{building_refused, spans_refused, lists_long, spans_pass, passes_as_span, span_settles}
-use borrow.Author.Rules.{rules}
 use Rattle.build_narrow.proofs.settle_from.Goals as goal
 
 -- ---- the needs
@@ -31,22 +30,22 @@ spans_hold-requires c =
 pub settle_narrow-requires : goal.settle_narrow-requires
 settle_narrow-requires c =
     let in-room : letters_in (format_for c.args.kind c.args.l c.args.words.now) ≤ length c.args.out.now =
-      omega (arith, c.if-out-letters_in.false, c.letters_in.ensures) in
+    omega (arith, c.if-out-letters_in.false, c.letters_in.ensures) in
     let pass : PassesTests c.args.kind c.args.l c.args.words.now c.args.ones.now c.args.twos.now (length c.args.out.now) =
-      spans_pass c.requires in-room (told_holds c.spans_hold.ensures c.in-Holds.is) in
+    spans_pass c.requires in-room (told_holds c.spans_hold.ensures c.in-Holds.is) in
     passes_as_span pass
 
 pub returns-in-Holds : goal.returns-in-Holds
 returns-in-Holds c =
     let in-room : letters_in (format_for c.args.kind c.args.l c.args.words.now) ≤ length c.args.out.now =
-      omega (arith, c.if-out-letters_in.false, c.letters_in.ensures) in
+    omega (arith, c.if-out-letters_in.false, c.letters_in.ensures) in
     let pass : PassesTests c.args.kind c.args.l c.args.words.now c.args.ones.now c.args.twos.now (length c.args.out.now) =
-      spans_pass c.requires in-room (told_holds c.spans_hold.ensures c.in-Holds.is) in
+    spans_pass c.requires in-room (told_holds c.spans_hold.ensures c.in-Holds.is) in
     span_settles pass c.settle_narrow.ensures
 
 pub returns-in-Refused : goal.returns-in-Refused
 returns-in-Refused c =
     let in-room : letters_in (format_for c.args.kind c.args.l c.args.words.now) ≤ length c.args.out.now =
-      omega (arith, c.if-out-letters_in.false, c.letters_in.ensures) in
-            spans_refused (lists_has_room _ _ _ _ _ _ _ (held_lists c.requires) in-room)
+    omega (arith, c.if-out-letters_in.false, c.letters_in.ensures) in
+    spans_refused (lists_has_room _ _ _ _ _ _ _ (held_lists c.requires) in-room)
     (told_refused c.spans_hold.ensures c.in-Refused.is)

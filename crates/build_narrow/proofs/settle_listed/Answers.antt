@@ -3,7 +3,6 @@ use native.Mathlib.Omega.{arith}
 use mathlib.Core.Path.{refl}
 use lib.ListN.{length-take}
 use Rattle.card_entries.proofs.HoldLaws.{lists_of_kind}
-use borrow.Author.Rules.{rules}
 use Rattle.build_narrow.proofs.settle_listed.Goals as goal
 
 pub slice_bounds-settle_from-end : goal.slice_bounds-settle_from-end

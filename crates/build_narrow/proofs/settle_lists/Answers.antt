@@ -3,7 +3,6 @@ use Rattle.base_answers.proofs.Laws.{told_holds, told_refused}
 use Rattle.card_lists.proofs.Laws.{lists_held}
 use Rattle.build_narrow.proofs.TestLaws.{lists_refuse}
 use Rattle.build_narrow.proofs.SettlingLaws.{building_refused}
-use borrow.Author.Rules.{rules}
 use Rattle.build_narrow.proofs.settle_lists.Goals as goal
 
 pub settle_from-requires : goal.settle_from-requires

@@ -1,7 +1,6 @@
 -- `spans_hold` meets its contract: the widths are tested where the kind is right. Assumes nothing.
 use mathlib.Core.Path.{◌∙◌}
 use Rattle.build_narrow.proofs.TestLaws.{span_go_on, span_wrong}
-use borrow.Author.Rules.{rules}
 use Rattle.build_narrow.proofs.spans_hold.Goals as goal
 
 pub returns-then-kind-eq-SPAN : goal.returns-then-kind-eq-SPAN

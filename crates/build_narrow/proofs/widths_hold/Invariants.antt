@@ -1,21 +1,13 @@
 -- `widths_hold` meets its contract. The invariant: the tests of the entries that are left answer as those of all do. What falls is how many
 -- are left. Assumes nothing.
-use borrow.Author.Rules.{rules}
-use mathlib.Core.Path.{◌≡◌, sym, ◌∙◌}
-use mathlib.Core.List.{[]}
-use Prim.Native.Nat.{ℕ, ◌-◌}
-use native.Mathlib.Omega.{arith}
+use mathlib.Core.Path.{◌≡◌}
+use Prim.Native.Nat.{◌-◌}
 use lib.ListN.{length}
-use Rattle.base_answers.specs.Numbers.{Wider}
 use Rattle.base_answers.specs.Answer.{first, sound}
 use Rattle.base_lists.specs.Row.{in_turn}
-use Rattle.base_answers.proofs.Laws.{first_last, first_fail, turn_holds, turn_refused, turns_end}
-use Rattle.base_lists.proofs.TestLaws.{failed, passed}
-use Rattle.card_entries.specs.declared.Slot.{Slot}
 use Rattle.card_entries.specs.Slot.{slot_from, entries_in}
-use Rattle.span_layers.specs.Narrow.{is_narrow}
 use Rattle.build_narrow.specs.Settling.{width_tests}
-use Rattle.build_narrow.proofs.TestLaws.{width_test, widths_in_turn}
+use Rattle.build_narrow.proofs.TestLaws.{width_test}
 use Rattle.build_narrow.proofs.widths_hold.Given as goal
 
 abbrev pub invariant-loop-e : goal.invariant-loop-e
