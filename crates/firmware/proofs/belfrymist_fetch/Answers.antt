@@ -1,6 +1,5 @@
 -- `firmware::belfrymist_fetch` meets its contract: the part is empty where the companion refuses, and otherwise starts at its block's
 -- place in the card. Assumes nothing.
-use borrow.Author.Rules.{rules}
 use native.Mathlib.Omega.{arith}
 use Rattle.firmware.proofs.Laws.{empty_flat, part_there, part_flat}
 use Rattle.firmware.proofs.belfrymist_fetch.Goals as goal

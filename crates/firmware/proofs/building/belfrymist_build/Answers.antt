@@ -1,5 +1,4 @@
 -- `belfrymist_build` meets its contract: what build answers, as numbers. Assumes nothing.
-use borrow.Author.Rules.{rules}
 use Rattle.firmware.proofs.Laws.{build_flat}
 use Rattle.firmware.proofs.building.belfrymist_build.Goals as goal
 

@@ -1,5 +1,4 @@
 -- `belfrymist_count` meets its contract: the number of builds of a card, as numbers. Assumes nothing.
-use borrow.Author.Rules.{rules}
 use Rattle.firmware.proofs.Laws.{count_flat}
 use Rattle.firmware.proofs.count.belfrymist_count.Goals as goal
 

@@ -1,7 +1,6 @@
 -- `belfrymist_import` meets its contract: the answer of `import`, as numbers, with the output as that left it. Assumes nothing.
 use mathlib.Core.Path.{ap, ◌∙◌}
 use Rattle.firmware.specs.Flat.{write_answer}
-use borrow.Author.Rules.{rules}
 use Rattle.firmware.proofs.listing.belfrymist_import.Goals as goal
 
 pub returns : goal.returns

@@ -1,5 +1,4 @@
 -- `belfrymist_settle` meets its contract: what settling a card answers, as numbers. Assumes nothing.
-use borrow.Author.Rules.{rules}
 use Rattle.firmware.proofs.Laws.{settle_flat}
 use Rattle.firmware.proofs.settle.belfrymist_settle.Goals as goal
 

@@ -1,5 +1,4 @@
 -- `belfrymist_settle_lists` meets its contract: what settling lists answers, as numbers. Assumes nothing.
-use borrow.Author.Rules.{rules}
 use Rattle.firmware.proofs.Laws.{settle_flat}
 use Rattle.firmware.proofs.settle.belfrymist_settle_lists.Goals as goal
 
