@@ -6,7 +6,7 @@ use denote.Triple.Clauses.{AtExit}
 use borrow.Fn.Kinds.{Dens, res_t, ended_of}
 use Rattle.card_layout.proofs.entry_blocks.Kinds as entry_blocks
 use Rattle.card_layout.proofs.entry_blocks.Reads as entry_blocks_reads
-use Rattle.card_layout.proofs.size_of.Kinds as type_size
+use Rattle.card_layout.proofs.size_of.Kinds as size_of_fn
 use Rattle.card_layout.proofs.size_of.Reads as size_of_reads
 use Rattle.card_layout.proofs.entries_before.Kinds as entries_before
 use Rattle.card_layout.proofs.entries_before.Reads as entries_before_reads
@@ -33,8 +33,8 @@ module _ (κs : Lfts 0) where
       → entry_blocks_reads.Post κs a r e → entry_blocks_reads.Post κs a r' e' → r ≡ r'
   entry_blocks_one a r r' e e' p q = p ∙ sym q
 
-  pub size_of_one : (a : Dens κs type_size.ps) (r r' : (res_t type_size.r κs).Denot)
-      (e e' : AtExit (ended_of 0 type_size.ps type_size.r) κs)
+  pub size_of_one : (a : Dens κs size_of_fn.ps) (r r' : (res_t size_of_fn.r κs).Denot)
+      (e e' : AtExit (ended_of 0 size_of_fn.ps size_of_fn.r) κs)
       → size_of_reads.Post κs a r e → size_of_reads.Post κs a r' e' → r ≡ r'
   size_of_one a r r' e e' p q = p ∙ sym q
 
