@@ -26,7 +26,7 @@ use Rattle.build_method.proofs.RightLaws.{right_one, words_one}
 use Rattle.pair_method.specs.PairMethod.{Gives}
 use Rattle.pair_method.proofs.CardLaws.{entry_fits}
 use Rattle.pair_method.proofs.pair.Kinds as pair_kinds
-use Rattle.pair_method.proofs.pair.Reads as Pair-reads
+use Rattle.pair_method.proofs.pair.Reads as pair_reads
 use Rattle.pair_method.proofs.settle.Kinds as settle_kinds
 use Rattle.pair_method.proofs.settle.Reads as settle_reads
 
@@ -79,9 +79,9 @@ module _ {l k k' : ℕ} {es : List Slot} {f f' : Bool} {ws vs : List ℕ} (admit
 
 pub pair_one : (κs : Lfts 4) (a : Dens κs pair_kinds.ps) (r r' : (res_t pair_kinds.r κs).Denot)
     (e e' : AtExit (ended_of 4 pair_kinds.ps pair_kinds.r) κs)
-    → Pair-reads.Pre κs a
-    → Pair-reads.Post κs a r e
-    → Pair-reads.Post κs a r' e'
+    → pair_reads.Pre κs a
+    → pair_reads.Post κs a r e
+    → pair_reads.Post κs a r' e'
     → (r.found ≡ r'.found)
     × (r.found ≡ true → r.choices ≡ r'.choices)
     × (r.found ≡ true → take (length a.1.0.now) e.1.1.1.1.0.now ≡ take (length a.1.0.now) e'.1.1.1.1.0.now)

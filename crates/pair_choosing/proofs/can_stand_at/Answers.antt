@@ -13,4 +13,8 @@ returns-then-p-put c =
 pub attempt-requires : goal.attempt-requires
 attempt-requires c =
     let pre = c.requires in
-    record { ready = pre.ready; closed = pre.closed; unplaced = (pre.allowed.0, rw pre.ready.shape.puts at c.if-p-put.false, pre.allowed.1, pre.allowed.2) }
+    record {
+      ready = pre.ready;
+      closed = pre.closed;
+      unplaced = (pre.allowed.0, rw pre.ready.shape.puts at c.if-p-put.false, pre.allowed.1, pre.allowed.2);
+    }

@@ -22,7 +22,11 @@ pub keep_word-g-requires : goal.keep_word-g-requires
 keep_word-g-requires c =
     let pre = c.requires in
     let g = c.weigh-b.ensures in
-    record { ready = record { holds = pre.ready.holds; links = pre.ready.links; shape = g.0.shape }; closed = rw g.0.same pre.closed; t_bound = pre.t_bound }
+    record {
+      ready = record { holds = pre.ready.holds; links = pre.ready.links; shape = g.0.shape };
+      closed = rw g.0.same pre.closed;
+      t_bound = pre.t_bound;
+    }
 
 pub returns : goal.returns
 returns c =

@@ -18,31 +18,6 @@ choose-g-requires c =
     let inv = c.loop-t.invariant.1 in
     record { ready = record { holds = pre.ready.holds; links = pre.ready.links; shape = inv.shape }; closed = inv.upto.closed; t_bound = in_range }
 
-pub overflow_add-choices : goal.overflow_add-choices
-overflow_add-choices c =
-    let in_range : c.loop-t.t < count_in c.args.card.now = rw c.loop-t.invariant.1.shape.puts at c.loop-t-test.true in
-    omega (arith, c.loop-t.invariant.1.few, c.choose-g.ensures.few, in_range)
-
-pub offset_bounds-words-t : goal.offset_bounds-words-t
-offset_bounds-words-t c =
-    let in_range : c.loop-t.t < count_in c.args.card.now = rw c.loop-t.invariant.1.shape.puts at c.loop-t-test.true in
-    omega (arith, in_range)
-
-pub bounds-words-t : goal.bounds-words-t
-bounds-words-t c =
-    let in_range : c.loop-t.t < count_in c.args.card.now = rw c.loop-t.invariant.1.shape.puts at c.loop-t-test.true in
-    omega (arith, in_range, c.loop-t.invariant.1.count)
-
-pub overflow_add-t : goal.overflow_add-t
-overflow_add-t c =
-    let in_range : c.loop-t.t < count_in c.args.card.now = rw c.loop-t.invariant.1.shape.puts at c.loop-t-test.true in
-    omega (arith, in_range)
-
-pub loop-t-smaller : goal.loop-t-smaller
-loop-t-smaller c =
-    let in_range : c.loop-t.t < count_in c.args.card.now = rw c.loop-t.invariant.1.shape.puts at c.loop-t-test.true in
-    omega (arith, in_range)
-
 pub loop-t-preserved : goal.loop-t-preserved
 loop-t-preserved c =
     let in_range : c.loop-t.t < count_in c.args.card.now = rw c.loop-t.invariant.1.shape.puts at c.loop-t-test.true in

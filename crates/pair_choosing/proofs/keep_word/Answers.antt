@@ -16,7 +16,11 @@ send_off-g-requires c =
     let inv = c.loop-k.invariant in
     let low = list_entry pre.ready.links inv.0 c.loop-k-test.true in
     let there = list_stands pre.ready.links inv.0 c.loop-k-test.true c.args.mask in
-    record { ready = record { holds = pre.ready.holds; links = pre.ready.links; shape = inv.1.shape }; closed = inv.1.cleared.closed; allowed = (low, pre.t_bound, there) }
+    record {
+      ready = record { holds = pre.ready.holds; links = pre.ready.links; shape = inv.1.shape };
+      closed = inv.1.cleared.closed;
+      allowed = (low, pre.t_bound, there);
+    }
 
 pub slot_before-k-requires : goal.slot_before-k-requires
 slot_before-k-requires c =

@@ -8,7 +8,8 @@ use Rattle.pair_choosing.proofs.keep_word.Given as goal
 
 abbrev pub invariant-loop-k : goal.invariant-loop-k
 invariant-loop-k l =
-    Listing l.card l.t l.k × Dropping (pairs_of l.card l.mask) (progress_of l.initial.put l.initial.trail l.n) (pick_of l.t l.w) l.k (progress_of l.put l.trail l.far)
+    Listing l.card l.t l.k × Dropping (pairs_of l.card l.mask) (progress_of l.initial.put l.initial.trail l.n)
+    (pick_of l.t l.w) l.k (progress_of l.put l.trail l.far)
 
 abbrev pub decreases-loop-k : goal.decreases-loop-k
 decreases-loop-k l = l.k

@@ -13,11 +13,16 @@ returns-then-after-eq0 c = grown_still c.requires.ready.shape (λ q h. absurd (o
 pub returns-then-after-put : goal.returns-then-after-put
 returns-then-after-put c =
     let pre = c.requires in
-    grown_still pre.ready.shape (λ q h f fp d z. absurd (beyond pre.ready.holds q 0 f fp (omega (arith, h, c.if-after-put.true, pre.ready.shape.puts)) z))
+    grown_still pre.ready.shape
+    (λ q h f fp d z. absurd (beyond pre.ready.holds q 0 f fp (omega (arith, h, c.if-after-put.true, pre.ready.shape.puts)) z))
 
 pub clear-g-requires : goal.clear-g-requires
 clear-g-requires c =
-    let pre = c.requires in record { ready = pre.ready; placed = (pre.placed.0, omega (arith, c.if-after-put.false, c.if-after-eq0.false, c.requires.ready.shape.puts), pre.placed.1) }
+    let pre = c.requires in
+    record {
+      ready = pre.ready;
+      placed = (pre.placed.0, omega (arith, c.if-after-put.false, c.if-after-eq0.false, c.requires.ready.shape.puts), pre.placed.1);
+    }
 
 pub can_be_filled-requires : goal.can_be_filled-requires
 can_be_filled-requires c =
@@ -31,7 +36,8 @@ returns-then-can_be_filled c =
 
 pub returns-then-g : goal.returns-then-g
 returns-then-g c =
-    grown_stuck (inside_of c.requires.ready.holds) (omega (arith, c.if-after-put.false, c.if-after-eq0.false, c.requires.ready.shape.puts)) c.if-g.true c.clear-g.ensures
+    grown_stuck (inside_of c.requires.ready.holds) (omega (arith, c.if-after-put.false, c.if-after-eq0.false, c.requires.ready.shape.puts))
+    c.if-g.true c.clear-g.ensures
     (c.can_be_filled.ensures c.if-can_be_filled.false c.args.mask)
 
 pub returns : goal.returns

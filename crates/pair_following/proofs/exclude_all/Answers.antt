@@ -7,13 +7,21 @@ use Rattle.pair_following.proofs.exclude_all.Goals as goal
 pub clear_beside-b-requires : goal.clear_beside-b-requires
 clear_beside-b-requires c =
     let pre = c.requires in
-    let w = c.clear-a.ensures in record { ready = record { holds = pre.ready.holds; links = pre.ready.links; shape = w.shape }; placed = (pre.placed.0, rw (w.traced.keeps _ pre.placed.0 pre.placed.1) pre.placed.1) }
+    let w = c.clear-a.ensures in
+    record {
+      ready = record { holds = pre.ready.holds; links = pre.ready.links; shape = w.shape };
+      placed = (pre.placed.0, rw (w.traced.keeps _ pre.placed.0 pre.placed.1) pre.placed.1);
+    }
 
 pub clear_beside-requires : goal.clear_beside-requires
 clear_beside-requires c =
     let pre = c.requires in
     let w = c.clear_beside-b.ensures in
-    let same = c.clear-a.ensures.traced.keeps _ pre.placed.0 pre.placed.1 in record { ready = record { holds = pre.ready.holds; links = pre.ready.links; shape = w.shape }; placed = (pre.placed.0, rw (w.traced.keeps _ pre.placed.0 (rw same pre.placed.1) ∙ same) pre.placed.1) }
+    let same = c.clear-a.ensures.traced.keeps _ pre.placed.0 pre.placed.1 in
+    record {
+      ready = record { holds = pre.ready.holds; links = pre.ready.links; shape = w.shape };
+      placed = (pre.placed.0, rw (w.traced.keeps _ pre.placed.0 (rw same pre.placed.1) ∙ same) pre.placed.1);
+    }
 
 pub returns-then-b : goal.returns-then-b
 returns-then-b c =

@@ -16,14 +16,14 @@ loop-top-init c =
     let pre = c.requires in
     chase_start pre.ready.shape pre.closed pre.unplaced.0 pre.unplaced.1 pre.unplaced.2 pre.unplaced.3
 
-pub bounds-trail-top : goal.bounds-trail-top
-bounds-trail-top c =
-    let shape = c.loop-top.invariant.grown.shape in omega (arith, shape.count, shape.trails, c.loop-top-test.true)
-
 pub exclude_all-g-requires : goal.exclude_all-g-requires
 exclude_all-g-requires c =
     let pre = c.requires in
-    let shape = c.loop-top.invariant.grown.shape in record { ready = record { holds = pre.ready.holds; links = pre.ready.links; shape = shape }; placed = (shape.inside _ c.loop-top-test.true, shape.placed _ c.loop-top-test.true) }
+    let shape = c.loop-top.invariant.grown.shape in
+    record {
+      ready = record { holds = pre.ready.holds; links = pre.ready.links; shape = shape };
+      placed = (shape.inside _ c.loop-top-test.true, shape.placed _ c.loop-top-test.true);
+    }
 
 pub loop-top-preserved : goal.loop-top-preserved
 loop-top-preserved c =

@@ -1,17 +1,11 @@
 -- `pair_forcing::force_all` meets its contract. Assumes nothing.
 use mathlib.Core.Bool.{true≢false}
 use Prim.Native.Nat.{◌<◌}
-use native.Mathlib.Omega.{arith}
 use Rattle.pair_following.specs.Following.{count_in}
 use Rattle.pair_forcing.proofs.force_all.Goals as goal
 
 pub loop-t-init : goal.loop-t-init
 loop-t-init c = let pre = c.requires in (pre.ready.shape, pre.sure)
-
-pub bounds-count-t : goal.bounds-count-t
-bounds-count-t c =
-    let in_range : c.loop-t.t < count_in c.args.card.now = rw c.loop-t.invariant.0.puts at c.loop-t-test.true in
-    omega (arith, in_range, c.requires.count_len)
 
 pub force_if-g-requires : goal.force_if-g-requires
 force_if-g-requires c =
@@ -19,16 +13,6 @@ force_if-g-requires c =
     let pre = c.requires in
     let inv = c.loop-t.invariant in
     record { ready = record { holds = pre.ready.holds; links = pre.ready.links; shape = inv.0 }; sure = inv.1; t_bound = in_range }
-
-pub overflow_add-t : goal.overflow_add-t
-overflow_add-t c =
-    let in_range : c.loop-t.t < count_in c.args.card.now = rw c.loop-t.invariant.0.puts at c.loop-t-test.true in
-    omega (arith, in_range)
-
-pub loop-t-smaller : goal.loop-t-smaller
-loop-t-smaller c =
-    let in_range : c.loop-t.t < count_in c.args.card.now = rw c.loop-t.invariant.0.puts at c.loop-t-test.true in
-    omega (arith, in_range)
 
 pub loop-t-preserved : goal.loop-t-preserved
 loop-t-preserved c = let g = c.force_if-g.ensures in (g.shape, g.good c.if-g.true)

@@ -14,4 +14,8 @@ pub spread-requires : goal.spread-requires
 spread-requires c =
     let pre = c.requires in
     let g = c.force_all-a.ensures in
-    record { ready = record { holds = pre.ready.holds; links = pre.ready.links; shape = g.shape }; sure = g.good c.if-a.true; count_len = c.count_up.ensures ∙ pre.count_len }
+    record {
+      ready = record { holds = pre.ready.holds; links = pre.ready.links; shape = g.shape };
+      sure = g.good c.if-a.true;
+      count_len = c.count_up.ensures ∙ pre.count_len;
+    }

@@ -2,18 +2,12 @@
 use mathlib.Core.Path.{◌∙◌}
 use mathlib.Core.Bool.{true≢false}
 use Prim.Native.Nat.{◌<◌}
-use native.Mathlib.Omega.{arith}
 use Rattle.pair_following.specs.Following.{count_in}
 use Rattle.pair_following.proofs.ExclusionLaws.{other_asks, other_inside}
 use Rattle.pair_forcing.proofs.spread.Goals as goal
 
 pub loop-seen-init : goal.loop-seen-init
 loop-seen-init c = let pre = c.requires in (pre.ready.shape, pre.sure, pre.count_len)
-
-pub bounds-put-e : goal.bounds-put-e
-bounds-put-e c =
-    let shape = c.loop-seen.invariant.0 in
-    omega (arith, shape.inside _ c.loop-seen-test.true, shape.puts)
 
 pub other-q-requires : goal.other-q-requires
 other-q-requires c =
@@ -23,14 +17,19 @@ other-q-requires c =
 
 pub fewer-few-requires : goal.fewer-few-requires
 fewer-few-requires c =
-    let low : c.other-q.result < count_in c.args.card.now = let inv = c.loop-seen.invariant in let e = inv.0.inside _ c.loop-seen-test.true in rw c.other-q.ensures (other_inside c.requires.ready.holds e (inv.1.closed.allowed _ e (inv.0.placed _ c.loop-seen-test.true))) in
+    let inv = c.loop-seen.invariant in
+    let e = inv.0.inside _ c.loop-seen-test.true in
+    let low : c.other-q.result < count_in c.args.card.now =
+    rw c.other-q.ensures (other_inside c.requires.ready.holds e (inv.1.closed.allowed _ e (inv.0.placed _ c.loop-seen-test.true))) in
     rw c.loop-seen.invariant.2 low
 
 pub force_if-g-requires : goal.force_if-g-requires
 force_if-g-requires c =
-    let low : c.other-q.result < count_in c.args.card.now = let inv = c.loop-seen.invariant in let e = inv.0.inside _ c.loop-seen-test.true in rw c.other-q.ensures (other_inside c.requires.ready.holds e (inv.1.closed.allowed _ e (inv.0.placed _ c.loop-seen-test.true))) in
     let pre = c.requires in
     let inv = c.loop-seen.invariant in
+    let e = inv.0.inside _ c.loop-seen-test.true in
+    let low : c.other-q.result < count_in c.args.card.now =
+    rw c.other-q.ensures (other_inside c.requires.ready.holds e (inv.1.closed.allowed _ e (inv.0.placed _ c.loop-seen-test.true))) in
     record { ready = record { holds = pre.ready.holds; links = pre.ready.links; shape = inv.0 }; sure = inv.1; t_bound = low }
 
 pub loop-seen-preserved : goal.loop-seen-preserved

@@ -11,7 +11,11 @@ choose_all-a-requires c =
 
 pub settle_all-requires : goal.settle_all-requires
 settle_all-requires c =
-    let pre = c.requires in record { ready = record { holds = pre.ready.holds; links = pre.ready.links; shape = c.choose_all-a.ensures.shape }; closed = (c.choose_all-a.ensures.good c.if-a.true).closed }
+    let pre = c.requires in
+    record {
+      ready = record { holds = pre.ready.holds; links = pre.ready.links; shape = c.choose_all-a.ensures.shape };
+      closed = (c.choose_all-a.ensures.good c.if-a.true).closed;
+    }
 
 pub returns-then-settle_all : goal.returns-then-settle_all
 returns-then-settle_all c =

@@ -6,5 +6,6 @@ pub decide-requires : goal.decide-requires
 decide-requires c =
     let args = c.args in
     let pre = c.requires in
-    let w = begin args.put.now args.count.now args.words.now pre.holds_pairs.0 pre.holds_pairs.1 pre.lengths.0 pre.lengths.1 pre.lengths.2 pre.lengths.3 c.fill.ensures in
+    let w = begin args.put.now args.count.now args.words.now pre.holds_pairs.0 pre.holds_pairs.1 pre.lengths.0 pre.lengths.1 pre.lengths.2 pre.lengths.3
+    c.fill.ensures in
     record { ready = w.0; sure = w.1.0; lengths = w.1.1 }

@@ -22,7 +22,10 @@ from_card-requires c =
     let pre = c.requires in
     let has = linked_has c.enter_all.ensures.has c.link.ensures in
     let holds = card_of_lem pre.pair_lists has masks in
-    record { holds_pairs = (holds, c.link.ensures.links); lengths = (pre.lengths.2 ∙ sym (many pre.pair_lists has masks), rw pre.lengths.2 pre.lengths.0) }
+    record {
+      holds_pairs = (holds, c.link.ensures.links);
+      lengths = (pre.lengths.2 ∙ sym (many pre.pair_lists has masks), rw pre.lengths.2 pre.lengths.0);
+    }
 
 pub returns : goal.returns
 returns c =

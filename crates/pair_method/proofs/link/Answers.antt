@@ -15,28 +15,13 @@ place_of-t-requires c =
 
 pub last_slot-before-requires : goal.last_slot-before-requires
 last_slot-before-requires c =
-    let low : c.place_of-t.result < count_in c.loop-x.card = let in_range : c.loop-x.x < 2 * count_in c.args.card.now = omega (arith, c.loop-x-test.true) in place_in_lem c.loop-x.invariant in_range c.place_of-t.ensures (c.requires.0 _ in_range) in
-    low
+    let in_range : c.loop-x.x < 2 * count_in c.args.card.now = omega (arith, c.loop-x-test.true) in
+    place_in_lem c.loop-x.invariant in_range c.place_of-t.ensures (c.requires.0 _ in_range)
 
 pub bounds-card-x : goal.bounds-card-x
 bounds-card-x c =
     let in_range : c.loop-x.x < 2 * count_in c.args.card.now = omega (arith, c.loop-x-test.true) in
     prev_room c.loop-x.invariant in_range
-
-pub overflow_mul-card-in-loop-x : goal.overflow_mul-card-in-loop-x
-overflow_mul-card-in-loop-x c =
-    let low : c.place_of-t.result < count_in c.loop-x.card = let in_range : c.loop-x.x < 2 * count_in c.args.card.now = omega (arith, c.loop-x-test.true) in place_in_lem c.loop-x.invariant in_range c.place_of-t.ensures (c.requires.0 _ in_range) in
-    omega (arith, low, c.loop-x.invariant.size)
-
-pub overflow_add-card-in-loop-x-2 : goal.overflow_add-card-in-loop-x-2
-overflow_add-card-in-loop-x-2 c =
-    let low : c.place_of-t.result < count_in c.loop-x.card = let in_range : c.loop-x.x < 2 * count_in c.args.card.now = omega (arith, c.loop-x-test.true) in place_in_lem c.loop-x.invariant in_range c.place_of-t.ensures (c.requires.0 _ in_range) in
-    omega (arith, low, c.loop-x.invariant.size)
-
-pub offset_bounds-card-t : goal.offset_bounds-card-t
-offset_bounds-card-t c =
-    let low : c.place_of-t.result < count_in c.loop-x.card = let in_range : c.loop-x.x < 2 * count_in c.args.card.now = omega (arith, c.loop-x-test.true) in place_in_lem c.loop-x.invariant in_range c.place_of-t.ensures (c.requires.0 _ in_range) in
-    omega (arith, low, c.loop-x.invariant.size)
 
 pub bounds-card-t : goal.bounds-card-t
 bounds-card-t c =

@@ -12,15 +12,15 @@ returns-then-put-e c = let pre = c.requires in place_had pre.ready.shape pre.clo
 
 pub follow-g-requires : goal.follow-g-requires
 follow-g-requires c =
-    let first : c.place_of-one.result < count_in c.args.card.now = let pre = c.requires in omega (arith, c.place_of-one.ensures, one_inside pre.ready.holds pre.e_bound) in
     let pre = c.requires in
+    let first : c.place_of-one.result < count_in c.args.card.now = omega (arith, c.place_of-one.ensures, one_inside pre.ready.holds pre.e_bound) in
     let unplaced = rw pre.ready.shape.puts at c.if-put-e.false in
     record { ready = pre.ready; closed = pre.closed; unplaced = (pre.e_bound, unplaced, first, inl c.place_of-one.ensures) }
 
 pub returns-then-g : goal.returns-then-g
 returns-then-g c =
-    let first : c.place_of-one.result < count_in c.args.card.now = let pre = c.requires in omega (arith, c.place_of-one.ensures, one_inside pre.ready.holds pre.e_bound) in
     let pre = c.requires in
+    let first : c.place_of-one.result < count_in c.args.card.now = omega (arith, c.place_of-one.ensures, one_inside pre.ready.holds pre.e_bound) in
     place_one pre.ready.shape pre.closed pre.e_bound first c.if-g.true c.follow-g.ensures
 
 pub undo-requires : goal.undo-requires
@@ -30,15 +30,20 @@ undo-requires c =
 
 pub follow-requires : goal.follow-requires
 follow-requires c =
-    let second : c.place_of-two.result < count_in c.args.card.now = let pre = c.requires in omega (arith, c.place_of-two.ensures, two_inside pre.ready.holds pre.e_bound) in
     let pre = c.requires in
+    let second : c.place_of-two.result < count_in c.args.card.now = omega (arith, c.place_of-two.ensures, two_inside pre.ready.holds pre.e_bound) in
     let back = undone pre.ready.shape pre.closed pre.e_bound c.place_of-one.ensures c.place_of-two.ensures second c.if-g.false
     c.follow-g.ensures c.undo.ensures in
-    let unplaced = rw pre.ready.shape.puts at c.if-put-e.false in record { ready = record { holds = pre.ready.holds; links = pre.ready.links; shape = back.shape }; closed = rw back.same pre.closed; unplaced = (pre.e_bound, rw back.same unplaced, second, inr c.place_of-two.ensures) }
+    let unplaced = rw pre.ready.shape.puts at c.if-put-e.false in
+    record {
+      ready = record { holds = pre.ready.holds; links = pre.ready.links; shape = back.shape };
+      closed = rw back.same pre.closed;
+      unplaced = (pre.e_bound, rw back.same unplaced, second, inr c.place_of-two.ensures);
+    }
 
 pub returns : goal.returns
 returns c =
-    let second : c.place_of-two.result < count_in c.args.card.now = let pre = c.requires in omega (arith, c.place_of-two.ensures, two_inside pre.ready.holds pre.e_bound) in
     let pre = c.requires in
+    let second : c.place_of-two.result < count_in c.args.card.now = omega (arith, c.place_of-two.ensures, two_inside pre.ready.holds pre.e_bound) in
     place_two pre.ready.shape pre.closed pre.e_bound c.place_of-one.ensures c.place_of-two.ensures second c.if-g.false
     c.follow-g.ensures c.undo.ensures c.follow.ensures

@@ -18,16 +18,6 @@ settle-g-requires c =
     let inv = c.loop-e.invariant in
     record { ready = record { holds = pre.ready.holds; links = pre.ready.links; shape = inv.shape }; closed = inv.closed; e_bound = in_range }
 
-pub overflow_add-e : goal.overflow_add-e
-overflow_add-e c =
-    let in_range : c.loop-e.e < count_in c.args.card.now = rw c.loop-e.invariant.shape.puts at c.loop-e-test.true in
-    omega (arith, in_range)
-
-pub loop-e-smaller : goal.loop-e-smaller
-loop-e-smaller c =
-    let in_range : c.loop-e.e < count_in c.args.card.now = rw c.loop-e.invariant.shape.puts at c.loop-e-test.true in
-    omega (arith, in_range)
-
 pub loop-e-preserved : goal.loop-e-preserved
 loop-e-preserved c =
     settling_more c.loop-e.invariant c.settle-g.ensures c.if-g.true
