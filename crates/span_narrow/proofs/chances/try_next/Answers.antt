@@ -24,7 +24,6 @@ pub can_stand-requires : goal.can_stand-requires
 can_stand-requires c =
     let low : c.at16-e.result < length c.args.words.now =
     omega (arith, trials_below c.requires.trying c.requires.trials.0 c.requires.trials.1, c.at16-e.ensures) in
-    let l = low in
     (low, omega (arith, c.requires.trying.planned.card.as_twos), omega (arith, c.requires.trying.sides.marks_all))
 
 pub overflow_add-result : goal.overflow_add-result

@@ -18,7 +18,6 @@ pub can_stand-requires : goal.can_stand-requires
 can_stand-requires c =
     let low : c.at16-e.result < length c.args.words.now =
     omega (arith, there_entry c.requires.keepable.here refl refl c.args.t.k c.requires.i_bound.0 c.requires.i_bound.1, c.at16-e.ensures) in
-    let l = low in
     (low, omega (arith, c.requires.keepable.twos_all), omega (arith, c.requires.keepable.marks_all))
 
 pub returns-then-not-can_stand : goal.returns-then-not-can_stand
@@ -43,7 +42,7 @@ keep_after-requires c =
     rw c.at16-e.ensures at c.can_stand.ensures in
     let tried : is_tried plan c.args.marks.now c.args.t ≡ true =
     passed is-tried (ap not c.if-not-can_stand.false) in
-    let l = low in record {
+    record {
       list_there = rw c.requires.keepable.marks_all c.requires.keepable.next;
       e_in_bounds = (
         omega (arith, c.requires.keepable.marks_all),
