@@ -7,7 +7,8 @@ use Rattle.build_count.proofs.count_from.Goals as goal
 
 pub pair-requires : goal.pair-requires
 pair-requires c =
-    let hold = lists_of_kind c.requires (hold_kind c.requires.hold (λ e. omega arith)) in record { pair_lists = hold; words_in_bounds = few_entries hold }
+    let hold = lists_of_kind c.requires (hold_kind c.requires.hold (λ e. omega arith)) in record
+    { pair_lists = hold; words_in_bounds = few_entries hold }
 
 pub returns : goal.returns
 returns c =

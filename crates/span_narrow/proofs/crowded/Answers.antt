@@ -12,14 +12,6 @@ pub start_of-requires : goal.start_of-requires
 start_of-requires c =
     omega (arith, c.requires, c.loop-i-test.true)
 
-pub overflow_add-start_of : goal.overflow_add-start_of
-overflow_add-start_of c =
-    omega (arith, c.start_of.ensures, c.shared_slice_known-1.given c.loop-i.i)
-
-pub overflow_add-i : goal.overflow_add-i
-overflow_add-i c =
-    omega (arith, c.requires, c.loop-i-test.true, c.well_formed)
-
 pub start_of-requires-in-loop-i : goal.start_of-requires-in-loop-i
 start_of-requires-in-loop-i c =
     omega (arith, c.requires, c.loop-i-test.true)
@@ -27,14 +19,6 @@ start_of-requires-in-loop-i c =
 pub returns-then-start_of : goal.returns-then-start_of
 returns-then-start_of c =
     crowding_found c.loop-i-test.true c.start_of.ensures c.start_of-in-loop-i.ensures (omega (arith, c.if-start_of.true))
-
-pub overflow_add-i-in-loop-i : goal.overflow_add-i-in-loop-i
-overflow_add-i-in-loop-i c =
-    omega (arith, c.requires, c.loop-i-test.true, c.well_formed)
-
-pub loop-i-smaller : goal.loop-i-smaller
-loop-i-smaller c =
-    omega (arith, c.loop-i-test.true)
 
 pub loop-i-preserved : goal.loop-i-preserved
 loop-i-preserved c =

@@ -1,5 +1,4 @@
 -- `settle` meets its contract: a crowded place leaves no build (`crowded_settles`), and without one the card is laid out. Assumes nothing.
-use mathlib.Core.Path.{sym}
 use Prim.Native.Nat.{◌≤◌}
 use native.Mathlib.Omega.{arith}
 use lib.ListN.{length}
@@ -19,31 +18,16 @@ pub returns-then-crowded : goal.returns-then-crowded
 returns-then-crowded c =
     crowded_settles c.prepare.ensures _ c.requires.narrow c.crowded.ensures c.if-crowded.true
 
-pub slice_bounds-marks-end : goal.slice_bounds-marks-end
-slice_bounds-marks-end c =
-    let few : length c.args.words.now ≤ most_entries =
-    few_entries c.requires.span_lists in
-    omega (arith, few)
-
-pub slice_bounds-settle_laid-end-3 : goal.slice_bounds-settle_laid-end-3
-slice_bounds-settle_laid-end-3 c =
-    let few : length c.args.words.now ≤ most_entries =
-    few_entries c.requires.span_lists in
-    sym (length-take-le _ _ few)
-
-pub slice_bounds-settle_laid-end-6 : goal.slice_bounds-settle_laid-end-6
-slice_bounds-settle_laid-end-6 c =
-    let found-room : length c.args.words.now ≤ length c.args.found.now =
-    c.requires.words_in_bounds in
-    sym (length-take-le _ _ found-room)
-
 pub settle_laid-requires : goal.settle_laid-requires
 settle_laid-requires c =
     let few : length c.args.words.now ≤ most_entries =
     few_entries c.requires.span_lists in
     let found-room : length c.args.words.now ≤ length c.args.found.now =
     c.requires.words_in_bounds in
-    record { planned = told_planned c.requires.span_lists c.prepare.ensures (c.crowded.ensures.no_place c.if-crowded.false).few; marks_len = (length-take-le _ _ few, omega (arith, few), length-take-le _ _ found-room) }
+    record {
+      planned = told_planned c.requires.span_lists c.prepare.ensures (c.crowded.ensures.no_place c.if-crowded.false).few;
+      marks_len = (length-take-le _ _ few, omega (arith, few), length-take-le _ _ found-room);
+    }
 
 pub returns : goal.returns
 returns c =

@@ -21,16 +21,27 @@ completes-requires c =
 
 pub returns-then-not-completes : goal.returns-then-not-completes
 returns-then-not-completes c =
-    record { settles_lists = none_settles c.requires.planned c.sweep.ensures.sides c.sweep.ensures.swept _ c.completes.ensures (failed refl (ap not c.if-not-completes.true)); first_len = c.requires.marks_len.2 }
+    record {
+      settles_lists = none_settles c.requires.planned c.sweep.ensures.sides c.sweep.ensures.swept _ c.completes.ensures
+          (failed refl (ap not c.if-not-completes.true));
+      first_len = c.requires.marks_len.2;
+    }
 
 pub read_off-requires : goal.read_off-requires
 read_off-requires c =
-    some_readable c.requires.planned c.sweep.ensures.sides c.sweep.ensures.swept c.completes.ensures (passed refl (ap not c.if-not-completes.false)) c.requires.marks_len.2
+    some_readable c.requires.planned c.sweep.ensures.sides c.sweep.ensures.swept c.completes.ensures
+    (passed refl (ap not c.if-not-completes.false)) c.requires.marks_len.2
 
 pub returns-then-read_off : goal.returns-then-read_off
 returns-then-read_off c =
-    record { settles_lists = several_settles c.requires.planned c.sweep.ensures.sides c.sweep.ensures.swept c.read_off.ensures c.if-read_off.true; first_len = c.read_off.ensures.all }
+    record {
+      settles_lists = several_settles c.requires.planned c.sweep.ensures.sides c.sweep.ensures.swept c.read_off.ensures c.if-read_off.true;
+      first_len = c.read_off.ensures.all;
+    }
 
 pub returns : goal.returns
 returns c =
-    record { settles_lists = sole_settles c.requires.planned c.sweep.ensures.sides c.sweep.ensures.swept c.read_off.ensures c.if-read_off.false; first_len = c.read_off.ensures.all }
+    record {
+      settles_lists = sole_settles c.requires.planned c.sweep.ensures.sides c.sweep.ensures.swept c.read_off.ensures c.if-read_off.false;
+      first_len = c.read_off.ensures.all;
+    }

@@ -16,12 +16,14 @@ returns-then-marks-e-ne0 c =
 
 pub returns-then-is_due : goal.returns-then-is_due
 returns-then-is_due c =
-    let by-dues : stands c.args.words.now c.args.twos.now c.args.marks.now c.args.i c.args.dues c.args.e c.args.tried ≡ eqb c.args.dues (bit (is_due c.args.twos.now c.args.marks.now c.args.i c.args.e)) =
+    let by-dues : stands c.args.words.now c.args.twos.now c.args.marks.now c.args.i c.args.dues c.args.e c.args.tried
+    ≡ eqb c.args.dues (bit (is_due c.args.twos.now c.args.marks.now c.args.i c.args.e)) =
     stands_by_dues c.args.words.now _ _ _ _ _ _ c.if-words-e.false c.if-marks-e-ne0.false in
     sym (by-dues ∙ ap (λ b. eqb c.args.dues (bit b)) (sym c.is_due.ensures ∙ c.if-is_due.true))
 
 pub returns : goal.returns
 returns c =
-    let by-dues : stands c.args.words.now c.args.twos.now c.args.marks.now c.args.i c.args.dues c.args.e c.args.tried ≡ eqb c.args.dues (bit (is_due c.args.twos.now c.args.marks.now c.args.i c.args.e)) =
+    let by-dues : stands c.args.words.now c.args.twos.now c.args.marks.now c.args.i c.args.dues c.args.e c.args.tried
+    ≡ eqb c.args.dues (bit (is_due c.args.twos.now c.args.marks.now c.args.i c.args.e)) =
     stands_by_dues c.args.words.now _ _ _ _ _ _ c.if-words-e.false c.if-marks-e-ne0.false in
     sym (by-dues ∙ ap (λ b. eqb c.args.dues (bit b)) (sym c.is_due.ensures ∙ c.if-is_due.false))

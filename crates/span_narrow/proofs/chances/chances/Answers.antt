@@ -1,10 +1,10 @@
 -- `chances` meets its contract: the loop tries one entry more (`Trials`), and in the end has the chances (`trials_done`). What falls is how
 -- many are left. Assumes nothing.
 use mathlib.Core.Path.{◌≡◌, refl, sym, ap, ◌∙◌}
-use Prim.Native.Nat.{◌+◌, ◌≤◌, ◌<◌}
+use Prim.Native.Nat.{◌+◌, ◌<◌}
 use native.Mathlib.Omega.{arith}
-use lib.ListN.{length, get_or}
-use Rattle.span_steps.proofs.PlaceLaws.{list_rises, list_ends, list_lent, list_below}
+use lib.ListN.{get_or}
+use Rattle.span_steps.proofs.PlaceLaws.{list_lent, list_below}
 use Rattle.span_narrow.specs.States.{dues_in}
 use Rattle.span_narrow.proofs.TrialLaws.{trials_none, trying_at, more_at, trials_done}
 use Rattle.span_narrow.proofs.chances.chances.Goals as goal
@@ -13,55 +13,9 @@ pub start_of-lo-requires : goal.start_of-lo-requires
 start_of-lo-requires c =
     omega (arith, c.requires.inside, c.requires.planned.prepared.starts_all)
 
-pub overflow_add-i : goal.overflow_add-i
-overflow_add-i c =
-    omega (arith, c.requires.inside, c.well_formed)
-
 pub start_of-end-requires : goal.start_of-end-requires
 start_of-end-requires c =
     omega (arith, c.requires.inside, c.requires.planned.prepared.starts_all)
-
-pub offset_bounds-slots-lo : goal.offset_bounds-slots-lo
-offset_bounds-slots-lo c =
-    let lo_is : c.start_of-lo.result ≡ get_or c.args.starts.now c.args.i 0 =
-    c.start_of-lo.ensures in
-    let end_is : c.start_of-end.result ≡ get_or c.args.starts.now (c.args.i + 1) 0 =
-    c.start_of-end.ensures in
-    let rises : c.start_of-lo.result ≤ c.start_of-end.result =
-    list_rises c.requires.planned.prepared c.requires.inside lo_is end_is in
-    let ends : c.start_of-end.result ≤ length c.args.slots.now =
-    list_ends c.requires.planned.prepared c.requires.inside lo_is end_is in
-    omega (arith, rises, ends, c.well_formed)
-
-pub slice_bounds-dues-count : goal.slice_bounds-dues-count
-slice_bounds-dues-count c =
-    let lo_is : c.start_of-lo.result ≡ get_or c.args.starts.now c.args.i 0 =
-    c.start_of-lo.ensures in
-    let end_is : c.start_of-end.result ≡ get_or c.args.starts.now (c.args.i + 1) 0 =
-    c.start_of-end.ensures in
-    let rises : c.start_of-lo.result ≤ c.start_of-end.result =
-    list_rises c.requires.planned.prepared c.requires.inside lo_is end_is in
-    rises
-
-pub slice_bounds-dues-start : goal.slice_bounds-dues-start
-slice_bounds-dues-start c =
-    let lo_is : c.start_of-lo.result ≡ get_or c.args.starts.now c.args.i 0 =
-    c.start_of-lo.ensures in
-    let end_is : c.start_of-end.result ≡ get_or c.args.starts.now (c.args.i + 1) 0 =
-    c.start_of-end.ensures in
-    let rises : c.start_of-lo.result ≤ c.start_of-end.result =
-    list_rises c.requires.planned.prepared c.requires.inside lo_is end_is in
-    rises
-
-pub slice_bounds-dues-end : goal.slice_bounds-dues-end
-slice_bounds-dues-end c =
-    let lo_is : c.start_of-lo.result ≡ get_or c.args.starts.now c.args.i 0 =
-    c.start_of-lo.ensures in
-    let end_is : c.start_of-end.result ≡ get_or c.args.starts.now (c.args.i + 1) 0 =
-    c.start_of-end.ensures in
-    let ends : c.start_of-end.result ≤ length c.args.slots.now =
-    list_ends c.requires.planned.prepared c.requires.inside lo_is end_is in
-    ends
 
 pub dues-requires : goal.dues-requires
 dues-requires c =
@@ -69,7 +23,10 @@ dues-requires c =
     c.start_of-lo.ensures in
     let end_is : c.start_of-end.result ≡ get_or c.args.starts.now (c.args.i + 1) 0 =
     c.start_of-end.ensures in
-    let pre = c.requires in record { below = list_below pre.planned.prepared pre.inside lo_is end_is pre.planned.card.as_twos; marks_len = pre.sides.marks_all ∙ sym pre.planned.card.as_twos }
+    let pre = c.requires in record {
+      below = list_below pre.planned.prepared pre.inside lo_is end_is pre.planned.card.as_twos;
+      marks_len = pre.sides.marks_all ∙ sym pre.planned.card.as_twos;
+    }
 
 pub loop-t-init : goal.loop-t-init
 loop-t-init c =
@@ -94,18 +51,10 @@ try_next-t-requires c =
     let pre = c.requires in
     rw inv.0 (record { trying = trying_at c.loop-t.t inv.1 pre; trials = (inv.2, more_at c.loop-t.t inv.1 pre more) })
 
-pub loop-t-smaller : goal.loop-t-smaller
-loop-t-smaller c =
-    omega (arith, c.loop-t-test.true, c.try_next-t.ensures.tried_next.1)
-
 pub loop-t-preserved : goal.loop-t-preserved
 loop-t-preserved c =
     let inv = c.loop-t.invariant in
     (c.try_next-t.ensures.marks_unchanged ∙ inv.0, c.try_next-t.ensures.tried_next.2 ∙ inv.1, rw inv.0 at c.try_next-t.ensures.tried_next.0)
-
-pub shape_of-marks : goal.shape_of-marks
-shape_of-marks c =
-    ap length c.loop-t.invariant.0
 
 pub returns : goal.returns
 returns c =

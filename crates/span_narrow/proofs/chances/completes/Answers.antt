@@ -6,7 +6,7 @@ use native.Mathlib.Omega.{arith}
 use lib.ListN.{length, get_or, take, drop}
 use Rattle.card_entries.proofs.HoldLaws.{few_entries}
 use Rattle.span_layers.specs.Narrow.{most_over}
-use Rattle.span_steps.proofs.PlaceLaws.{list_rises, list_ends, list_below}
+use Rattle.span_steps.proofs.PlaceLaws.{list_below}
 use Rattle.span_narrow.proofs.StateLaws.{list_long, list_few, cell_completes, completes_all}
 use Rattle.span_narrow.proofs.chances.completes.Goals as goal
 
@@ -18,63 +18,9 @@ pub start_of-lo-requires : goal.start_of-lo-requires
 start_of-lo-requires c =
     omega (arith, c.requires.inside, c.if-i-words.false, c.requires.planned.prepared.starts_all)
 
-pub overflow_add-i : goal.overflow_add-i
-overflow_add-i c =
-    omega (arith, c.requires.inside, c.well_formed)
-
 pub start_of-end-requires : goal.start_of-end-requires
 start_of-end-requires c =
     omega (arith, c.requires.inside, c.if-i-words.false, c.requires.planned.prepared.starts_all)
-
-pub offset_bounds-slots-lo : goal.offset_bounds-slots-lo
-offset_bounds-slots-lo c =
-    let inside : c.args.s.i < length c.args.words.now =
-    omega (arith, c.requires.inside, c.if-i-words.false) in
-    let lo_is : c.start_of-lo.result ≡ get_or c.args.starts.now c.args.s.i 0 =
-    c.start_of-lo.ensures in
-    let end_is : c.start_of-end.result ≡ get_or c.args.starts.now (c.args.s.i + 1) 0 =
-    c.start_of-end.ensures in
-    let rises : c.start_of-lo.result ≤ c.start_of-end.result =
-    list_rises c.requires.planned.prepared inside lo_is end_is in
-    let ends : c.start_of-end.result ≤ length c.args.slots.now =
-    list_ends c.requires.planned.prepared inside lo_is end_is in
-    omega (arith, rises, ends, c.well_formed)
-
-pub slice_bounds-cell_of-count : goal.slice_bounds-cell_of-count
-slice_bounds-cell_of-count c =
-    let inside : c.args.s.i < length c.args.words.now =
-    omega (arith, c.requires.inside, c.if-i-words.false) in
-    let lo_is : c.start_of-lo.result ≡ get_or c.args.starts.now c.args.s.i 0 =
-    c.start_of-lo.ensures in
-    let end_is : c.start_of-end.result ≡ get_or c.args.starts.now (c.args.s.i + 1) 0 =
-    c.start_of-end.ensures in
-    let rises : c.start_of-lo.result ≤ c.start_of-end.result =
-    list_rises c.requires.planned.prepared inside lo_is end_is in
-    rises
-
-pub slice_bounds-cell_of-start : goal.slice_bounds-cell_of-start
-slice_bounds-cell_of-start c =
-    let inside : c.args.s.i < length c.args.words.now =
-    omega (arith, c.requires.inside, c.if-i-words.false) in
-    let lo_is : c.start_of-lo.result ≡ get_or c.args.starts.now c.args.s.i 0 =
-    c.start_of-lo.ensures in
-    let end_is : c.start_of-end.result ≡ get_or c.args.starts.now (c.args.s.i + 1) 0 =
-    c.start_of-end.ensures in
-    let rises : c.start_of-lo.result ≤ c.start_of-end.result =
-    list_rises c.requires.planned.prepared inside lo_is end_is in
-    rises
-
-pub slice_bounds-cell_of-end : goal.slice_bounds-cell_of-end
-slice_bounds-cell_of-end c =
-    let inside : c.args.s.i < length c.args.words.now =
-    omega (arith, c.requires.inside, c.if-i-words.false) in
-    let lo_is : c.start_of-lo.result ≡ get_or c.args.starts.now c.args.s.i 0 =
-    c.start_of-lo.ensures in
-    let end_is : c.start_of-end.result ≡ get_or c.args.starts.now (c.args.s.i + 1) 0 =
-    c.start_of-end.ensures in
-    let ends : c.start_of-end.result ≤ length c.args.slots.now =
-    list_ends c.requires.planned.prepared inside lo_is end_is in
-    ends
 
 pub cell_of-requires : goal.cell_of-requires
 cell_of-requires c =
@@ -86,63 +32,10 @@ cell_of-requires c =
     c.start_of-end.ensures in
     let few : length (take (c.start_of-end.result - c.start_of-lo.result) (drop c.start_of-lo.result c.args.slots.now)) ≤ most_over =
     omega (arith, list_long c.requires.planned inside lo_is end_is, list_few c.requires.planned inside lo_is end_is) in
-    let pre = c.requires in record { below = list_below pre.planned.prepared inside lo_is end_is pre.sides.marks_all; list_len_bound = (few, omega (arith, inside, few_entries pre.planned.card)) }
-
-pub bounds-table-cell_of : goal.bounds-table-cell_of
-bounds-table-cell_of c =
-    let inside : c.args.s.i < length c.args.words.now =
-    omega (arith, c.requires.inside, c.if-i-words.false) in
-    omega (arith, c.cell_of.ensures.low, inside, c.requires.room)
-
-pub offset_bounds-slots-lo-2 : goal.offset_bounds-slots-lo-2
-offset_bounds-slots-lo-2 c =
-    let inside : c.args.s.i < length c.args.words.now =
-    omega (arith, c.requires.inside, c.if-i-words.false) in
-    let lo_is : c.start_of-lo.result ≡ get_or c.args.starts.now c.args.s.i 0 =
-    c.start_of-lo.ensures in
-    let end_is : c.start_of-end.result ≡ get_or c.args.starts.now (c.args.s.i + 1) 0 =
-    c.start_of-end.ensures in
-    let rises : c.start_of-lo.result ≤ c.start_of-end.result =
-    list_rises c.requires.planned.prepared inside lo_is end_is in
-    let ends : c.start_of-end.result ≤ length c.args.slots.now =
-    list_ends c.requires.planned.prepared inside lo_is end_is in
-    omega (arith, rises, ends, c.well_formed)
-
-pub slice_bounds-choose-count : goal.slice_bounds-choose-count
-slice_bounds-choose-count c =
-    let inside : c.args.s.i < length c.args.words.now =
-    omega (arith, c.requires.inside, c.if-i-words.false) in
-    let lo_is : c.start_of-lo.result ≡ get_or c.args.starts.now c.args.s.i 0 =
-    c.start_of-lo.ensures in
-    let end_is : c.start_of-end.result ≡ get_or c.args.starts.now (c.args.s.i + 1) 0 =
-    c.start_of-end.ensures in
-    let rises : c.start_of-lo.result ≤ c.start_of-end.result =
-    list_rises c.requires.planned.prepared inside lo_is end_is in
-    rises
-
-pub slice_bounds-choose-start : goal.slice_bounds-choose-start
-slice_bounds-choose-start c =
-    let inside : c.args.s.i < length c.args.words.now =
-    omega (arith, c.requires.inside, c.if-i-words.false) in
-    let lo_is : c.start_of-lo.result ≡ get_or c.args.starts.now c.args.s.i 0 =
-    c.start_of-lo.ensures in
-    let end_is : c.start_of-end.result ≡ get_or c.args.starts.now (c.args.s.i + 1) 0 =
-    c.start_of-end.ensures in
-    let rises : c.start_of-lo.result ≤ c.start_of-end.result =
-    list_rises c.requires.planned.prepared inside lo_is end_is in
-    rises
-
-pub slice_bounds-choose-end : goal.slice_bounds-choose-end
-slice_bounds-choose-end c =
-    let inside : c.args.s.i < length c.args.words.now =
-    omega (arith, c.requires.inside, c.if-i-words.false) in
-    let lo_is : c.start_of-lo.result ≡ get_or c.args.starts.now c.args.s.i 0 =
-    c.start_of-lo.ensures in
-    let end_is : c.start_of-end.result ≡ get_or c.args.starts.now (c.args.s.i + 1) 0 =
-    c.start_of-end.ensures in
-    let ends : c.start_of-end.result ≤ length c.args.slots.now =
-    list_ends c.requires.planned.prepared inside lo_is end_is in
-    ends
+    let pre = c.requires in record {
+      below = list_below pre.planned.prepared inside lo_is end_is pre.sides.marks_all;
+      list_len_bound = (few, omega (arith, inside, few_entries pre.planned.card));
+    }
 
 pub choose-requires : goal.choose-requires
 choose-requires c =
@@ -153,18 +46,6 @@ choose-requires c =
     let end_is : c.start_of-end.result ≡ get_or c.args.starts.now (c.args.s.i + 1) 0 =
     c.start_of-end.ensures in
     list_below c.requires.planned.prepared inside lo_is end_is refl
-
-pub overflow_sub-result : goal.overflow_sub-result
-overflow_sub-result c =
-    let inside : c.args.s.i < length c.args.words.now =
-    omega (arith, c.requires.inside, c.if-i-words.false) in
-    let lo_is : c.start_of-lo.result ≡ get_or c.args.starts.now c.args.s.i 0 =
-    c.start_of-lo.ensures in
-    let end_is : c.start_of-end.result ≡ get_or c.args.starts.now (c.args.s.i + 1) 0 =
-    c.start_of-end.ensures in
-    let rises : c.start_of-lo.result ≤ c.start_of-end.result =
-    list_rises c.requires.planned.prepared inside lo_is end_is in
-    rises
 
 pub returns : goal.returns
 returns c =

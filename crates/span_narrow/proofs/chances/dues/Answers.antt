@@ -18,10 +18,6 @@ is_due-requires c =
     c.requires.below.each _ (get_d_in _ c.loop-k.k c.loop-k-test.true) in
     omega (arith, low, c.at16.ensures, c.requires.marks_len)
 
-pub overflow_add-n : goal.overflow_add-n
-overflow_add-n c =
-    omega (arith, c.loop-k.invariant.few, c.loop-k-test.true, c.well_formed)
-
 pub loop-k-preserved : goal.loop-k-preserved
 loop-k-preserved c =
     let is = rw c.at16.ensures at (sym c.is_due.ensures) in

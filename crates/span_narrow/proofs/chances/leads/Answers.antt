@@ -3,7 +3,7 @@
 use Prim.Native.Nat.{◌<◌}
 use native.Mathlib.Omega.{arith}
 use lib.ListN.{length, length-set}
-use Rattle.card_entries.proofs.HoldLaws.{few_entries, few_letters, some_letter}
+use Rattle.card_entries.proofs.HoldLaws.{few_letters, some_letter}
 use Rattle.span_narrow.proofs.PlaceLaws.{tried_here, tried_free}
 use Rattle.span_narrow.proofs.StateLaws.{completes_after, marked_unmarked, leading_known}
 use Rattle.span_narrow.proofs.chances.leads.Goals as goal
@@ -15,10 +15,6 @@ bounds-marks-e c =
     let has-mark : c.args.s.e < length c.args.marks.now =
     omega (arith, low, c.requires.sides.marks_all) in
     has-mark
-
-pub overflow_add-next : goal.overflow_add-next
-overflow_add-next c =
-    omega (arith, c.requires.inside, few_entries c.requires.planned.card)
 
 pub offset_bounds-words-e : goal.offset_bounds-words-e
 offset_bounds-words-e c =
@@ -50,4 +46,7 @@ bounds-marks-e-2 c =
 
 pub returns : goal.returns
 returns c =
-    record { value = completes_after _ _ _ _ c.tail_of.ensures c.completes-r.ensures; marks_unchanged = marked_unmarked _ _ (tried_free c.requires.planned c.requires.sides c.requires.inside _ c.requires.tried) }
+    record {
+      value = completes_after _ _ _ _ c.tail_of.ensures c.completes-r.ensures;
+      marks_unchanged = marked_unmarked _ _ (tried_free c.requires.planned c.requires.sides c.requires.inside _ c.requires.tried);
+    }

@@ -16,12 +16,6 @@ pub at16-e-requires : goal.at16-e-requires
 at16-e-requires c =
     omega (arith, c.loop-k.invariant.within, c.loop-k-test.true)
 
-pub offset_bounds-words-e : goal.offset_bounds-words-e
-offset_bounds-words-e c =
-    let low : get_or c.args.list.now (c.loop-k.k - 1) 0 < length c.args.words.now =
-    c.requires.each _ (get_d_in _ (c.loop-k.k - 1) (omega (arith, c.loop-k.invariant.within, c.loop-k-test.true))) in
-    omega (arith, low, c.at16-e.ensures, c.well_formed)
-
 pub bounds-words-e : goal.bounds-words-e
 bounds-words-e c =
     let low : get_or c.args.list.now (c.loop-k.k - 1) 0 < length c.args.words.now =

@@ -8,17 +8,9 @@ pub loop-k-init : goal.loop-k-init
 loop-k-init c =
     filling_none _ _ refl
 
-pub loop-k-smaller : goal.loop-k-smaller
-loop-k-smaller c =
-    omega (arith, c.loop-k.invariant.all, c.loop-k-test.true)
-
 pub loop-k-preserved : goal.loop-k-preserved
 loop-k-preserved c =
     filling_turn _ _ c.loop-k.invariant (omega (arith, c.loop-k.invariant.all, c.loop-k-test.true)) refl
-
-pub shape_of-list : goal.shape_of-list
-shape_of-list c =
-    c.loop-k.invariant.all
 
 pub returns : goal.returns
 returns c =

@@ -24,10 +24,6 @@ loop-k-preserved c =
     omega (arith, c.loop-k.invariant.all) in
     rw c.at16-e.ensures (marking_turn _ _ _ c.loop-k.invariant c.loop-k-test.true low)
 
-pub shape_of-marks : goal.shape_of-marks
-shape_of-marks c =
-    c.loop-k.invariant.all
-
 pub returns : goal.returns
 returns c =
     marking_all _ _ _ c.loop-k.invariant c.loop-k-test.false

@@ -29,10 +29,6 @@ loop-k-preserved c =
     omega (arith, c.loop-k.invariant.all) in
     rw c.at16-e.ensures (marking_by_turn _ _ _ c.loop-k.invariant c.requires.apart c.loop-k-test.true low refl)
 
-pub shape_of-marks : goal.shape_of-marks
-shape_of-marks c =
-    c.loop-k.invariant.all
-
 pub returns : goal.returns
 returns c =
     marking_by_all _ _ _ c.loop-k.invariant (omega (arith, c.loop-k-test.false))

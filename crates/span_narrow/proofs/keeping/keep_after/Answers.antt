@@ -1,71 +1,21 @@
 -- `keep_after` meets its contract: the cell is that of the state once the entry stands, and the mark is taken away again. Assumes nothing.
 use mathlib.Core.Path.{◌≡◌, ap, ◌∙◌}
-use Prim.Native.Nat.{◌+◌, ◌≤◌}
+use Prim.Native.Nat.{◌+◌}
 use native.Mathlib.Omega.{arith}
-use lib.ListN.{length, get_or, set, length-set}
+use lib.ListN.{get_or, set, length-set}
 use Rattle.span_tables.specs.Prepared.{list_at}
 use Rattle.span_narrow.specs.States.{cell_of}
 use Rattle.span_narrow.proofs.StateLaws.{marked_unmarked}
-use Rattle.span_narrow.proofs.FollowLaws.{there_rises, there_ends, there_lent, there_below, there_few}
+use Rattle.span_narrow.proofs.FollowLaws.{there_lent, there_below, there_few}
 use Rattle.span_narrow.proofs.keeping.keep_after.Goals as goal
 
 pub start_of-lo-requires : goal.start_of-lo-requires
 start_of-lo-requires c =
     omega (arith, c.requires.list_there.starts_all)
 
-pub overflow_add-i : goal.overflow_add-i
-overflow_add-i c =
-    omega (arith, c.requires.list_there.numbered)
-
 pub start_of-end-requires : goal.start_of-end-requires
 start_of-end-requires c =
     c.requires.list_there.starts_all
-
-pub bounds-marks-e : goal.bounds-marks-e
-bounds-marks-e c =
-    c.requires.e_in_bounds.0
-
-pub offset_bounds-slots-lo : goal.offset_bounds-slots-lo
-offset_bounds-slots-lo c =
-    let lo_is : c.start_of-lo.result ≡ get_or c.args.starts.now c.args.i 0 =
-    c.start_of-lo.ensures in
-    let end_is : c.start_of-end.result ≡ get_or c.args.starts.now (c.args.i + 1) 0 =
-    c.start_of-end.ensures in
-    let rises : c.start_of-lo.result ≤ c.start_of-end.result =
-    there_rises c.requires.list_there lo_is end_is in
-    let ends : c.start_of-end.result ≤ length c.args.slots.now =
-    there_ends c.requires.list_there lo_is end_is in
-    omega (arith, rises, ends, c.well_formed)
-
-pub slice_bounds-cell_of-count : goal.slice_bounds-cell_of-count
-slice_bounds-cell_of-count c =
-    let lo_is : c.start_of-lo.result ≡ get_or c.args.starts.now c.args.i 0 =
-    c.start_of-lo.ensures in
-    let end_is : c.start_of-end.result ≡ get_or c.args.starts.now (c.args.i + 1) 0 =
-    c.start_of-end.ensures in
-    let rises : c.start_of-lo.result ≤ c.start_of-end.result =
-    there_rises c.requires.list_there lo_is end_is in
-    rises
-
-pub slice_bounds-cell_of-start : goal.slice_bounds-cell_of-start
-slice_bounds-cell_of-start c =
-    let lo_is : c.start_of-lo.result ≡ get_or c.args.starts.now c.args.i 0 =
-    c.start_of-lo.ensures in
-    let end_is : c.start_of-end.result ≡ get_or c.args.starts.now (c.args.i + 1) 0 =
-    c.start_of-end.ensures in
-    let rises : c.start_of-lo.result ≤ c.start_of-end.result =
-    there_rises c.requires.list_there lo_is end_is in
-    rises
-
-pub slice_bounds-cell_of-end : goal.slice_bounds-cell_of-end
-slice_bounds-cell_of-end c =
-    let lo_is : c.start_of-lo.result ≡ get_or c.args.starts.now c.args.i 0 =
-    c.start_of-lo.ensures in
-    let end_is : c.start_of-end.result ≡ get_or c.args.starts.now (c.args.i + 1) 0 =
-    c.start_of-end.ensures in
-    let ends : c.start_of-end.result ≤ length c.args.slots.now =
-    there_ends c.requires.list_there lo_is end_is in
-    ends
 
 pub cell_of-cell-requires : goal.cell_of-cell-requires
 cell_of-cell-requires c =
@@ -73,15 +23,10 @@ cell_of-cell-requires c =
     c.start_of-lo.ensures in
     let end_is : c.start_of-end.result ≡ get_or c.args.starts.now (c.args.i + 1) 0 =
     c.start_of-end.ensures in
-    record { below = there_below c.requires.list_there lo_is end_is (length-set c.args.marks.now c.args.e 1); list_len_bound = (there_few c.requires.list_there lo_is end_is, c.requires.list_there.numbered) }
-
-pub bounds-marks-e-2 : goal.bounds-marks-e-2
-bounds-marks-e-2 c =
-    omega (arith, c.requires.e_in_bounds.0, length-set c.args.marks.now c.args.e 1)
-
-pub bounds-table-cell : goal.bounds-table-cell
-bounds-table-cell c =
-    omega (arith, c.cell_of-cell.ensures.low, c.requires.e_in_bounds.2)
+    record {
+      below = there_below c.requires.list_there lo_is end_is (length-set c.args.marks.now c.args.e 1);
+      list_len_bound = (there_few c.requires.list_there lo_is end_is, c.requires.list_there.numbered);
+    }
 
 pub returns : goal.returns
 returns c =

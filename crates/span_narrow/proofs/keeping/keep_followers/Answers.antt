@@ -1,10 +1,10 @@
 -- `keep_followers` meets its contract: one entry more is tried in each turn (`Visiting`). What falls is how many are left. Assumes nothing.
 use mathlib.Core.Path.{◌≡◌, refl, sym, ap, ◌∙◌}
-use Prim.Native.Nat.{◌+◌, ◌≤◌, ◌<◌}
+use Prim.Native.Nat.{◌+◌, ◌<◌}
 use native.Mathlib.Omega.{arith}
-use lib.ListN.{length, get_or}
+use lib.ListN.{get_or}
 use Rattle.span_narrow.specs.States.{dues_in}
-use Rattle.span_narrow.proofs.FollowLaws.{there_rises, there_ends, there_lent, there_below}
+use Rattle.span_narrow.proofs.FollowLaws.{there_lent, there_below}
 use Rattle.span_narrow.proofs.FollowLaws.{visiting_none, visiting_can, visiting_turn, visiting_all, kept_same}
 use Rattle.span_narrow.proofs.keeping.keep_followers.Goals as goal
 
@@ -12,55 +12,9 @@ pub start_of-lo-requires : goal.start_of-lo-requires
 start_of-lo-requires c =
     omega (arith, c.requires.here.starts_all)
 
-pub overflow_add-i : goal.overflow_add-i
-overflow_add-i c =
-    omega (arith, c.requires.here.numbered)
-
 pub start_of-end-requires : goal.start_of-end-requires
 start_of-end-requires c =
     c.requires.here.starts_all
-
-pub offset_bounds-slots-lo : goal.offset_bounds-slots-lo
-offset_bounds-slots-lo c =
-    let lo_is : c.start_of-lo.result ≡ get_or c.args.starts.now c.args.i 0 =
-    c.start_of-lo.ensures in
-    let end_is : c.start_of-end.result ≡ get_or c.args.starts.now (c.args.i + 1) 0 =
-    c.start_of-end.ensures in
-    let rises : c.start_of-lo.result ≤ c.start_of-end.result =
-    there_rises c.requires.here lo_is end_is in
-    let ends : c.start_of-end.result ≤ length c.args.slots.now =
-    there_ends c.requires.here lo_is end_is in
-    omega (arith, rises, ends, c.well_formed)
-
-pub slice_bounds-dues-count : goal.slice_bounds-dues-count
-slice_bounds-dues-count c =
-    let lo_is : c.start_of-lo.result ≡ get_or c.args.starts.now c.args.i 0 =
-    c.start_of-lo.ensures in
-    let end_is : c.start_of-end.result ≡ get_or c.args.starts.now (c.args.i + 1) 0 =
-    c.start_of-end.ensures in
-    let rises : c.start_of-lo.result ≤ c.start_of-end.result =
-    there_rises c.requires.here lo_is end_is in
-    rises
-
-pub slice_bounds-dues-start : goal.slice_bounds-dues-start
-slice_bounds-dues-start c =
-    let lo_is : c.start_of-lo.result ≡ get_or c.args.starts.now c.args.i 0 =
-    c.start_of-lo.ensures in
-    let end_is : c.start_of-end.result ≡ get_or c.args.starts.now (c.args.i + 1) 0 =
-    c.start_of-end.ensures in
-    let rises : c.start_of-lo.result ≤ c.start_of-end.result =
-    there_rises c.requires.here lo_is end_is in
-    rises
-
-pub slice_bounds-dues-end : goal.slice_bounds-dues-end
-slice_bounds-dues-end c =
-    let lo_is : c.start_of-lo.result ≡ get_or c.args.starts.now c.args.i 0 =
-    c.start_of-lo.ensures in
-    let end_is : c.start_of-end.result ≡ get_or c.args.starts.now (c.args.i + 1) 0 =
-    c.start_of-end.ensures in
-    let ends : c.start_of-end.result ≤ length c.args.slots.now =
-    there_ends c.requires.here lo_is end_is in
-    ends
 
 pub dues-due-requires : goal.dues-due-requires
 dues-due-requires c =
@@ -90,20 +44,6 @@ keep_next-tried-requires c =
     let inv = c.loop-k.invariant in
     record { keepable = visiting_can inv.1 inv.0; i_bound = (inv.1.from, more) }
 
-pub overflow_add-k : goal.overflow_add-k
-overflow_add-k c =
-    let lo_is : c.start_of-lo.result ≡ get_or c.args.starts.now c.args.i 0 =
-    c.start_of-lo.ensures in
-    let end_is : c.start_of-end.result ≡ get_or c.args.starts.now (c.args.i + 1) 0 =
-    c.start_of-end.ensures in
-    let ends : c.start_of-end.result ≤ length c.args.slots.now =
-    there_ends c.requires.here lo_is end_is in
-    omega (arith, c.loop-k-test.true, ends, c.well_formed)
-
-pub loop-k-smaller : goal.loop-k-smaller
-loop-k-smaller c =
-    omega (arith, c.loop-k-test.true)
-
 pub loop-k-preserved : goal.loop-k-preserved
 loop-k-preserved c =
     let end_is : c.start_of-end.result ≡ get_or c.args.starts.now (c.args.i + 1) 0 =
@@ -112,14 +52,6 @@ loop-k-preserved c =
     omega (arith, c.loop-k-test.true, end_is) in
     let inv = c.loop-k.invariant in
     (c.keep_next-tried.ensures.marks_unchanged ∙ inv.0, visiting_turn inv.1 more (kept_same inv.0 c.keep_next-tried.ensures.kept_if_tried))
-
-pub shape_of-marks : goal.shape_of-marks
-shape_of-marks c =
-    ap length c.loop-k.invariant.0
-
-pub shape_of-table : goal.shape_of-table
-shape_of-table c =
-    c.loop-k.invariant.1.grows.all
 
 pub returns : goal.returns
 returns c =

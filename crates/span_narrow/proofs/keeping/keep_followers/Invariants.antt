@@ -7,7 +7,8 @@ use Rattle.span_narrow.proofs.keeping.keep_followers.Given as goal
 
 abbrev pub invariant-loop-k : goal.invariant-loop-k
 invariant-loop-k l =
-    (l.marks ≡ l.initial.marks) × Visiting (plan_of l.l l.words l.twos l.starts l.slots) l.initial.marks l.initial.table record { i = l.i; k = l.k; due = l.due; tried = l.tried } l.table
+    (l.marks ≡ l.initial.marks) × Visiting (plan_of l.l l.words l.twos l.starts l.slots) l.initial.marks l.initial.table record
+    { i = l.i; k = l.k; due = l.due; tried = l.tried } l.table
 
 abbrev pub decreases-loop-k : goal.decreases-loop-k
 decreases-loop-k l = l.end - l.k

@@ -28,10 +28,6 @@ returns-then-not-can_stand c =
     rw c.at16-e.ensures at c.can_stand.ensures in
     record { kept_if_tried = kept_skip (failed is-tried (ap not c.if-not-can_stand.true)); marks_unchanged = refl }
 
-pub overflow_add-i : goal.overflow_add-i
-overflow_add-i c =
-    omega (arith, c.requires.keepable.here.numbered)
-
 pub keep_after-requires : goal.keep_after-requires
 keep_after-requires c =
     let plan : Plan =
@@ -51,12 +47,6 @@ keep_after-requires c =
       );
     }
 
-pub offset_bounds-words-e : goal.offset_bounds-words-e
-offset_bounds-words-e c =
-    let low : c.at16-e.result < length c.args.words.now =
-    omega (arith, there_entry c.requires.keepable.here refl refl c.args.t.k c.requires.i_bound.0 c.requires.i_bound.1, c.at16-e.ensures) in
-    omega (arith, low, c.well_formed)
-
 pub bounds-words-e : goal.bounds-words-e
 bounds-words-e c =
     let low : c.at16-e.result < length c.args.words.now =
@@ -71,4 +61,8 @@ returns c =
     rw c.at16-e.ensures at c.can_stand.ensures in
     let tried : is_tried plan c.args.marks.now c.args.t ≡ true =
     passed is-tried (ap not c.if-not-can_stand.false) in
-    record { kept_if_tried = kept_take c.at16-e.ensures tried refl (there_cell _ c.requires.keepable.next c.requires.keepable.room) c.keep_after.ensures.table_after; marks_unchanged = c.keep_after.ensures.marks_unchanged }
+    record {
+      kept_if_tried = kept_take c.at16-e.ensures tried refl (there_cell _ c.requires.keepable.next c.requires.keepable.room)
+          c.keep_after.ensures.table_after;
+      marks_unchanged = c.keep_after.ensures.marks_unchanged;
+    }

@@ -1,13 +1,11 @@
 -- `keep_place` meets its contract: one state more is seen in each turn (`Opening`), and then its entries are placed. Assumes nothing.
 use mathlib.Core.Path.{◌≡◌, refl}
-use Prim.Native.Nat.{◌+◌, ◌-◌, ◌^◌, ◌≤◌, ◌<◌}
+use Prim.Native.Nat.{◌+◌, ◌-◌, ◌≤◌, ◌<◌}
 use native.Mathlib.Omega.{arith}
 use lib.ListN.{length, get_or, take, drop}
-use lib.Pow.{pow_mono}
-use Rattle.card_entries.proofs.HoldLaws.{few_entries}
 use Rattle.span_layers.specs.Narrow.{most_over}
 use Rattle.span_tables.specs.Prepared.{list_at}
-use Rattle.span_steps.proofs.PlaceLaws.{list_rises, list_ends, list_lent, list_below}
+use Rattle.span_steps.proofs.PlaceLaws.{list_lent, list_below}
 use Rattle.span_narrow.proofs.StateLaws.{list_few}
 use Rattle.span_narrow.proofs.SideLaws.{sides_filled}
 use Rattle.span_narrow.proofs.ReachLaws.{low_sets, below_place}
@@ -19,29 +17,11 @@ start_of-lo-requires c =
     omega (arith, c.requires.inside) in
     omega (arith, in-card, c.requires.planned.prepared.starts_all)
 
-pub overflow_add-i : goal.overflow_add-i
-overflow_add-i c =
-    let in-card : c.args.i < length c.args.words.now =
-    omega (arith, c.requires.inside) in
-    omega (arith, in-card, few_entries c.requires.planned.card)
-
 pub start_of-end-requires : goal.start_of-end-requires
 start_of-end-requires c =
     let in-card : c.args.i < length c.args.words.now =
     omega (arith, c.requires.inside) in
     omega (arith, in-card, c.requires.planned.prepared.starts_all)
-
-pub overflow_sub-end : goal.overflow_sub-end
-overflow_sub-end c =
-    let in-card : c.args.i < length c.args.words.now =
-    omega (arith, c.requires.inside) in
-    let lo_is : c.start_of-lo.result ≡ get_or c.args.starts.now c.args.i 0 =
-    c.start_of-lo.ensures in
-    let end_is : c.start_of-end.result ≡ get_or c.args.starts.now (c.args.i + 1) 0 =
-    c.start_of-end.ensures in
-    let rises : c.start_of-lo.result ≤ c.start_of-end.result =
-    list_rises c.requires.planned.prepared in-card lo_is end_is in
-    rises
 
 pub sets_of-sets-requires : goal.sets_of-sets-requires
 sets_of-sets-requires c =
@@ -67,78 +47,10 @@ keep_state-requires c =
     c.start_of-end.ensures in
     record { opening = c.loop-b.invariant.0; b_bound = low_sets c.args.starts.now c.args.i lo_is end_is c.sets_of-sets.ensures c.loop-b-test.true }
 
-pub overflow_add-b : goal.overflow_add-b
-overflow_add-b c =
-    let in-card : c.args.i < length c.args.words.now =
-    omega (arith, c.requires.inside) in
-    let lo_is : c.start_of-lo.result ≡ get_or c.args.starts.now c.args.i 0 =
-    c.start_of-lo.ensures in
-    let end_is : c.start_of-end.result ≡ get_or c.args.starts.now (c.args.i + 1) 0 =
-    c.start_of-end.ensures in
-    let few : c.start_of-end.result - c.start_of-lo.result ≤ most_over =
-    list_few c.requires.planned in-card lo_is end_is in
-    let few-sets : 2 ^ (c.start_of-end.result - c.start_of-lo.result) ≤ 2 ^ most_over =
-    pow_mono {j = most_over} few in
-    omega (arith, c.loop-b-test.true, c.sets_of-sets.ensures, few-sets)
-
-pub loop-b-smaller : goal.loop-b-smaller
-loop-b-smaller c =
-    omega (arith, c.loop-b-test.true)
-
 pub loop-b-preserved : goal.loop-b-preserved
 loop-b-preserved c =
     let inv = c.loop-b.invariant in
     (c.keep_state.ensures, omega (arith, c.marks-1.given, inv.1), omega (arith, c.table-1.given, inv.2))
-
-pub offset_bounds-slots-lo : goal.offset_bounds-slots-lo
-offset_bounds-slots-lo c =
-    let in-card : c.args.i < length c.args.words.now =
-    omega (arith, c.requires.inside) in
-    let lo_is : c.start_of-lo.result ≡ get_or c.args.starts.now c.args.i 0 =
-    c.start_of-lo.ensures in
-    let end_is : c.start_of-end.result ≡ get_or c.args.starts.now (c.args.i + 1) 0 =
-    c.start_of-end.ensures in
-    let rises : c.start_of-lo.result ≤ c.start_of-end.result =
-    list_rises c.requires.planned.prepared in-card lo_is end_is in
-    let ends : c.start_of-end.result ≤ length c.args.slots.now =
-    list_ends c.requires.planned.prepared in-card lo_is end_is in
-    omega (arith, rises, ends, c.well_formed)
-
-pub slice_bounds-mark_list-count : goal.slice_bounds-mark_list-count
-slice_bounds-mark_list-count c =
-    let in-card : c.args.i < length c.args.words.now =
-    omega (arith, c.requires.inside) in
-    let lo_is : c.start_of-lo.result ≡ get_or c.args.starts.now c.args.i 0 =
-    c.start_of-lo.ensures in
-    let end_is : c.start_of-end.result ≡ get_or c.args.starts.now (c.args.i + 1) 0 =
-    c.start_of-end.ensures in
-    let rises : c.start_of-lo.result ≤ c.start_of-end.result =
-    list_rises c.requires.planned.prepared in-card lo_is end_is in
-    rises
-
-pub slice_bounds-mark_list-start : goal.slice_bounds-mark_list-start
-slice_bounds-mark_list-start c =
-    let in-card : c.args.i < length c.args.words.now =
-    omega (arith, c.requires.inside) in
-    let lo_is : c.start_of-lo.result ≡ get_or c.args.starts.now c.args.i 0 =
-    c.start_of-lo.ensures in
-    let end_is : c.start_of-end.result ≡ get_or c.args.starts.now (c.args.i + 1) 0 =
-    c.start_of-end.ensures in
-    let rises : c.start_of-lo.result ≤ c.start_of-end.result =
-    list_rises c.requires.planned.prepared in-card lo_is end_is in
-    rises
-
-pub slice_bounds-mark_list-end : goal.slice_bounds-mark_list-end
-slice_bounds-mark_list-end c =
-    let in-card : c.args.i < length c.args.words.now =
-    omega (arith, c.requires.inside) in
-    let lo_is : c.start_of-lo.result ≡ get_or c.args.starts.now c.args.i 0 =
-    c.start_of-lo.ensures in
-    let end_is : c.start_of-end.result ≡ get_or c.args.starts.now (c.args.i + 1) 0 =
-    c.start_of-end.ensures in
-    let ends : c.start_of-end.result ≤ length c.args.slots.now =
-    list_ends c.requires.planned.prepared in-card lo_is end_is in
-    ends
 
 pub mark_list-requires : goal.mark_list-requires
 mark_list-requires c =
@@ -150,14 +62,6 @@ mark_list-requires c =
     c.start_of-end.ensures in
     list_below c.requires.planned.prepared in-card lo_is end_is c.loop-b.invariant.0.sides.marks_all
 
-pub shape_of-marks : goal.shape_of-marks
-shape_of-marks c =
-    omega (arith, c.marks-2-1.given, c.loop-b.invariant.1)
-
-pub shape_of-table : goal.shape_of-table
-shape_of-table c =
-    c.loop-b.invariant.2
-
 pub returns : goal.returns
 returns c =
     let in-card : c.args.i < length c.args.words.now =
@@ -166,7 +70,8 @@ returns c =
     c.start_of-lo.ensures in
     let end_is : c.start_of-end.result ≡ get_or c.args.starts.now (c.args.i + 1) 0 =
     c.start_of-end.ensures in
-    let lent : take (c.start_of-end.result - c.start_of-lo.result) (drop c.start_of-lo.result c.args.slots.now) ≡ list_at c.args.starts.now c.args.slots.now c.args.i =
+    let lent : take (c.start_of-end.result - c.start_of-lo.result) (drop c.start_of-lo.result c.args.slots.now)
+    ≡ list_at c.args.starts.now c.args.slots.now c.args.i =
     list_lent c.requires.planned.prepared in-card lo_is end_is in
     let inv = c.loop-b.invariant.0 in record {
       sides = sides_filled inv.planned in-card inv.sides (rw lent at c.mark_list.ensures) (omega arith) refl;

@@ -8,7 +8,8 @@ use Rattle.span_narrow.proofs.keeping.keep_place.Given as goal
 
 abbrev pub invariant-loop-b : goal.invariant-loop-b
 invariant-loop-b l =
-    Opening (plan_of l.l l.words l.twos l.starts l.slots) l.marks l.table l.i l.b × (length l.marks ≡ length l.initial.marks) × (length l.table ≡ length l.initial.table)
+    Opening (plan_of l.l l.words l.twos l.starts l.slots) l.marks l.table l.i l.b × (length l.marks ≡ length l.initial.marks) ×
+    (length l.table ≡ length l.initial.table)
 
 abbrev pub decreases-loop-b : goal.decreases-loop-b
 decreases-loop-b l = l.sets - l.b

@@ -5,10 +5,9 @@ use Prim.Native.Nat.{◌+◌, ◌-◌, ◌^◌, ◌≤◌, ◌<◌}
 use native.Mathlib.Omega.{arith}
 use lib.ListN.{length, get_or, take, drop}
 use lib.Pow.{pow_mono}
-use Rattle.card_entries.proofs.HoldLaws.{few_entries}
 use Rattle.span_layers.specs.Narrow.{most_over}
 use Rattle.span_tables.specs.Prepared.{list_at}
-use Rattle.span_steps.proofs.PlaceLaws.{list_rises, list_ends, list_lent}
+use Rattle.span_steps.proofs.PlaceLaws.{list_lent}
 use Rattle.span_narrow.specs.Digits.{MarkedBy}
 use Rattle.span_narrow.specs.Plan.{Plan, plan_of}
 use Rattle.span_narrow.specs.States.{cells_over, Sides}
@@ -17,32 +16,6 @@ use Rattle.span_narrow.proofs.SideLaws.{sides_spread, spread_asks}
 use Rattle.span_narrow.proofs.FollowLaws.{keepable}
 use Rattle.span_narrow.proofs.ReachLaws.{below_skip, below_follow}
 use Rattle.span_narrow.proofs.keeping.keep_state.Goals as goal
-
-pub overflow_mul-i : goal.overflow_mul-i
-overflow_mul-i c =
-    let in-card : c.args.s.i < length c.args.words.now =
-    omega (arith, c.requires.opening.inside) in
-    omega (arith, in-card, few_entries c.requires.opening.planned.card)
-
-pub overflow_add-i : goal.overflow_add-i
-overflow_add-i c =
-    let in-card : c.args.s.i < length c.args.words.now =
-    omega (arith, c.requires.opening.inside) in
-    let few : c.args.s.b < cells_over =
-    let low : 2 ^ (get_or c.args.starts.now (c.args.s.i + 1) 0 - get_or c.args.starts.now c.args.s.i 0) ≤ 2 ^ most_over =
-    pow_mono {j = most_over} (list_few c.requires.opening.planned in-card refl refl) in
-    omega (arith, c.requires.b_bound) in
-    omega (arith, in-card, few_entries c.requires.opening.planned.card, few)
-
-pub bounds-table-i : goal.bounds-table-i
-bounds-table-i c =
-    let in-card : c.args.s.i < length c.args.words.now =
-    omega (arith, c.requires.opening.inside) in
-    let few : c.args.s.b < cells_over =
-    let low : 2 ^ (get_or c.args.starts.now (c.args.s.i + 1) 0 - get_or c.args.starts.now c.args.s.i 0) ≤ 2 ^ most_over =
-    pow_mono {j = most_over} (list_few c.requires.opening.planned in-card refl refl) in
-    omega (arith, c.requires.b_bound) in
-    omega (arith, few, in-card, c.requires.opening.upto.room)
 
 pub returns-then-table-i-eq0 : goal.returns-then-table-i-eq0
 returns-then-table-i-eq0 c =
@@ -59,67 +32,11 @@ start_of-lo-requires c =
     omega (arith, c.requires.opening.inside) in
     omega (arith, in-card, c.requires.opening.planned.prepared.starts_all)
 
-pub overflow_add-i-2 : goal.overflow_add-i-2
-overflow_add-i-2 c =
-    let in-card : c.args.s.i < length c.args.words.now =
-    omega (arith, c.requires.opening.inside) in
-    omega (arith, in-card, few_entries c.requires.opening.planned.card)
-
 pub start_of-end-requires : goal.start_of-end-requires
 start_of-end-requires c =
     let in-card : c.args.s.i < length c.args.words.now =
     omega (arith, c.requires.opening.inside) in
     omega (arith, in-card, c.requires.opening.planned.prepared.starts_all)
-
-pub offset_bounds-slots-lo : goal.offset_bounds-slots-lo
-offset_bounds-slots-lo c =
-    let in-card : c.args.s.i < length c.args.words.now =
-    omega (arith, c.requires.opening.inside) in
-    let lo_is : c.start_of-lo.result ≡ get_or c.args.starts.now c.args.s.i 0 =
-    c.start_of-lo.ensures in
-    let end_is : c.start_of-end.result ≡ get_or c.args.starts.now (c.args.s.i + 1) 0 =
-    c.start_of-end.ensures in
-    let rises : c.start_of-lo.result ≤ c.start_of-end.result =
-    list_rises c.requires.opening.planned.prepared in-card lo_is end_is in
-    let ends : c.start_of-end.result ≤ length c.args.slots.now =
-    list_ends c.requires.opening.planned.prepared in-card lo_is end_is in
-    omega (arith, rises, ends, c.well_formed)
-
-pub slice_bounds-spread-count : goal.slice_bounds-spread-count
-slice_bounds-spread-count c =
-    let in-card : c.args.s.i < length c.args.words.now =
-    omega (arith, c.requires.opening.inside) in
-    let lo_is : c.start_of-lo.result ≡ get_or c.args.starts.now c.args.s.i 0 =
-    c.start_of-lo.ensures in
-    let end_is : c.start_of-end.result ≡ get_or c.args.starts.now (c.args.s.i + 1) 0 =
-    c.start_of-end.ensures in
-    let rises : c.start_of-lo.result ≤ c.start_of-end.result =
-    list_rises c.requires.opening.planned.prepared in-card lo_is end_is in
-    rises
-
-pub slice_bounds-spread-start : goal.slice_bounds-spread-start
-slice_bounds-spread-start c =
-    let in-card : c.args.s.i < length c.args.words.now =
-    omega (arith, c.requires.opening.inside) in
-    let lo_is : c.start_of-lo.result ≡ get_or c.args.starts.now c.args.s.i 0 =
-    c.start_of-lo.ensures in
-    let end_is : c.start_of-end.result ≡ get_or c.args.starts.now (c.args.s.i + 1) 0 =
-    c.start_of-end.ensures in
-    let rises : c.start_of-lo.result ≤ c.start_of-end.result =
-    list_rises c.requires.opening.planned.prepared in-card lo_is end_is in
-    rises
-
-pub slice_bounds-spread-end : goal.slice_bounds-spread-end
-slice_bounds-spread-end c =
-    let in-card : c.args.s.i < length c.args.words.now =
-    omega (arith, c.requires.opening.inside) in
-    let lo_is : c.start_of-lo.result ≡ get_or c.args.starts.now c.args.s.i 0 =
-    c.start_of-lo.ensures in
-    let end_is : c.start_of-end.result ≡ get_or c.args.starts.now (c.args.s.i + 1) 0 =
-    c.start_of-end.ensures in
-    let ends : c.start_of-end.result ≤ length c.args.slots.now =
-    list_ends c.requires.opening.planned.prepared in-card lo_is end_is in
-    ends
 
 pub spread-requires : goal.spread-requires
 spread-requires c =
@@ -129,7 +46,8 @@ spread-requires c =
     c.start_of-lo.ensures in
     let end_is : c.start_of-end.result ≡ get_or c.args.starts.now (c.args.s.i + 1) 0 =
     c.start_of-end.ensures in
-    let asked = spread_asks c.requires.opening.planned in-card lo_is end_is c.requires.opening.sides.marks_all (rw (lo_is, end_is) c.requires.b_bound) in
+    let asked = spread_asks c.requires.opening.planned in-card lo_is end_is c.requires.opening.sides.marks_all
+    (rw (lo_is, end_is) c.requires.b_bound) in
     record { below = asked.0; apart = asked.1.0; b_bound = asked.1.1 }
 
 pub keep_followers-requires : goal.keep_followers-requires
@@ -140,7 +58,8 @@ keep_followers-requires c =
     c.start_of-lo.ensures in
     let end_is : c.start_of-end.result ≡ get_or c.args.starts.now (c.args.s.i + 1) 0 =
     c.start_of-end.ensures in
-    let lent : take (c.start_of-end.result - c.start_of-lo.result) (drop c.start_of-lo.result c.args.slots.now) ≡ list_at c.args.starts.now c.args.slots.now c.args.s.i =
+    let lent : take (c.start_of-end.result - c.start_of-lo.result) (drop c.start_of-lo.result c.args.slots.now)
+    ≡ list_at c.args.starts.now c.args.slots.now c.args.s.i =
     list_lent c.requires.opening.planned.prepared in-card lo_is end_is in
     let spread-is : MarkedBy (list_at c.args.starts.now c.args.slots.now c.args.s.i) c.args.marks.now c.args.s.b c.spread.new.marks =
     rw lent at c.spread.ensures in
@@ -162,7 +81,8 @@ returns c =
     c.start_of-lo.ensures in
     let end_is : c.start_of-end.result ≡ get_or c.args.starts.now (c.args.s.i + 1) 0 =
     c.start_of-end.ensures in
-    let lent : take (c.start_of-end.result - c.start_of-lo.result) (drop c.start_of-lo.result c.args.slots.now) ≡ list_at c.args.starts.now c.args.slots.now c.args.s.i =
+    let lent : take (c.start_of-end.result - c.start_of-lo.result) (drop c.start_of-lo.result c.args.slots.now)
+    ≡ list_at c.args.starts.now c.args.slots.now c.args.s.i =
     list_lent c.requires.opening.planned.prepared in-card lo_is end_is in
     let spread-is : MarkedBy (list_at c.args.starts.now c.args.slots.now c.args.s.i) c.args.marks.now c.args.s.b c.spread.new.marks =
     rw lent at c.spread.ensures in

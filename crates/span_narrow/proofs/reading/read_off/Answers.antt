@@ -29,39 +29,15 @@ bounds-words-e c =
     (tried_here inv.0.planned inv.1.sides c.loop-i-test.true _ c.take_first-t.ensures.tried).0 in
     low
 
-pub offset_bounds-first-i : goal.offset_bounds-first-i
-offset_bounds-first-i c =
-    omega (arith, c.loop-i-test.true, c.well_formed)
-
-pub bounds-first-i : goal.bounds-first-i
-bounds-first-i c =
-    omega (arith, c.loop-i-test.true, c.loop-i.invariant.1.firsts)
-
 pub tail_of-want-requires : goal.tail_of-want-requires
 tail_of-want-requires c =
     let card = c.loop-i.invariant.0.planned.card in
     (some_letter card, few_letters card)
 
-pub overflow_add-i : goal.overflow_add-i
-overflow_add-i c =
-    omega (arith, c.loop-i-test.true, c.well_formed)
-
-pub loop-i-smaller : goal.loop-i-smaller
-loop-i-smaller c =
-    omega (arith, c.loop-i-test.true)
-
 pub loop-i-preserved : goal.loop-i-preserved
 loop-i-preserved c =
     let inv = c.loop-i.invariant in
     (inv.0, reading_turn inv.0 inv.1 c.loop-i-test.true c.take_first-t.ensures c.tail_of-want.ensures c.either-more.ensures)
-
-pub shape_of-marks : goal.shape_of-marks
-shape_of-marks c =
-    let inv = c.loop-i.invariant in omega (arith, inv.1.sides.marks_all, inv.0.sides.marks_all)
-
-pub shape_of-first : goal.shape_of-first
-shape_of-first c =
-    let inv = c.loop-i.invariant in omega (arith, inv.1.firsts, inv.0.firsts_all)
 
 pub returns : goal.returns
 returns c =

@@ -14,55 +14,9 @@ pub start_of-lo-requires : goal.start_of-lo-requires
 start_of-lo-requires c =
     omega (arith, c.requires.inside, c.requires.planned.prepared.starts_all)
 
-pub overflow_add-i : goal.overflow_add-i
-overflow_add-i c =
-    omega (arith, c.requires.inside, few_entries c.requires.planned.card)
-
 pub start_of-end-requires : goal.start_of-end-requires
 start_of-end-requires c =
     omega (arith, c.requires.inside, c.requires.planned.prepared.starts_all)
-
-pub offset_bounds-slots-lo : goal.offset_bounds-slots-lo
-offset_bounds-slots-lo c =
-    let lo_is : c.start_of-lo.result ≡ get_or c.args.starts.now c.args.s.i 0 =
-    c.start_of-lo.ensures in
-    let end_is : c.start_of-end.result ≡ get_or c.args.starts.now (c.args.s.i + 1) 0 =
-    c.start_of-end.ensures in
-    let rises : c.start_of-lo.result ≤ c.start_of-end.result =
-    list_rises c.requires.planned.prepared c.requires.inside lo_is end_is in
-    let ends : c.start_of-end.result ≤ length c.args.slots.now =
-    list_ends c.requires.planned.prepared c.requires.inside lo_is end_is in
-    omega (arith, rises, ends, c.well_formed)
-
-pub slice_bounds-cell_of-count : goal.slice_bounds-cell_of-count
-slice_bounds-cell_of-count c =
-    let lo_is : c.start_of-lo.result ≡ get_or c.args.starts.now c.args.s.i 0 =
-    c.start_of-lo.ensures in
-    let end_is : c.start_of-end.result ≡ get_or c.args.starts.now (c.args.s.i + 1) 0 =
-    c.start_of-end.ensures in
-    let rises : c.start_of-lo.result ≤ c.start_of-end.result =
-    list_rises c.requires.planned.prepared c.requires.inside lo_is end_is in
-    rises
-
-pub slice_bounds-cell_of-start : goal.slice_bounds-cell_of-start
-slice_bounds-cell_of-start c =
-    let lo_is : c.start_of-lo.result ≡ get_or c.args.starts.now c.args.s.i 0 =
-    c.start_of-lo.ensures in
-    let end_is : c.start_of-end.result ≡ get_or c.args.starts.now (c.args.s.i + 1) 0 =
-    c.start_of-end.ensures in
-    let rises : c.start_of-lo.result ≤ c.start_of-end.result =
-    list_rises c.requires.planned.prepared c.requires.inside lo_is end_is in
-    rises
-
-pub slice_bounds-cell_of-end : goal.slice_bounds-cell_of-end
-slice_bounds-cell_of-end c =
-    let lo_is : c.start_of-lo.result ≡ get_or c.args.starts.now c.args.s.i 0 =
-    c.start_of-lo.ensures in
-    let end_is : c.start_of-end.result ≡ get_or c.args.starts.now (c.args.s.i + 1) 0 =
-    c.start_of-end.ensures in
-    let ends : c.start_of-end.result ≤ length c.args.slots.now =
-    list_ends c.requires.planned.prepared c.requires.inside lo_is end_is in
-    ends
 
 pub cell_of-requires : goal.cell_of-requires
 cell_of-requires c =
@@ -72,53 +26,10 @@ cell_of-requires c =
     c.start_of-end.ensures in
     let few : length (take (c.start_of-end.result - c.start_of-lo.result) (drop c.start_of-lo.result c.args.slots.now)) ≤ most_over =
     let pre = c.requires in omega (arith, list_long pre.planned pre.inside lo_is end_is, list_few pre.planned pre.inside lo_is end_is) in
-    let pre = c.requires in record { below = list_below pre.planned.prepared pre.inside lo_is end_is pre.sides.marks_all; list_len_bound = (few, omega (arith, pre.inside, few_entries pre.planned.card)) }
-
-pub bounds-table-cell_of : goal.bounds-table-cell_of
-bounds-table-cell_of c =
-    omega (arith, c.cell_of.ensures.low, c.requires.inside, c.requires.room)
-
-pub offset_bounds-slots-lo-2 : goal.offset_bounds-slots-lo-2
-offset_bounds-slots-lo-2 c =
-    let lo_is : c.start_of-lo.result ≡ get_or c.args.starts.now c.args.s.i 0 =
-    c.start_of-lo.ensures in
-    let end_is : c.start_of-end.result ≡ get_or c.args.starts.now (c.args.s.i + 1) 0 =
-    c.start_of-end.ensures in
-    let rises : c.start_of-lo.result ≤ c.start_of-end.result =
-    list_rises c.requires.planned.prepared c.requires.inside lo_is end_is in
-    let ends : c.start_of-end.result ≤ length c.args.slots.now =
-    list_ends c.requires.planned.prepared c.requires.inside lo_is end_is in
-    omega (arith, rises, ends, c.well_formed)
-
-pub slice_bounds-choose-count : goal.slice_bounds-choose-count
-slice_bounds-choose-count c =
-    let lo_is : c.start_of-lo.result ≡ get_or c.args.starts.now c.args.s.i 0 =
-    c.start_of-lo.ensures in
-    let end_is : c.start_of-end.result ≡ get_or c.args.starts.now (c.args.s.i + 1) 0 =
-    c.start_of-end.ensures in
-    let rises : c.start_of-lo.result ≤ c.start_of-end.result =
-    list_rises c.requires.planned.prepared c.requires.inside lo_is end_is in
-    rises
-
-pub slice_bounds-choose-start : goal.slice_bounds-choose-start
-slice_bounds-choose-start c =
-    let lo_is : c.start_of-lo.result ≡ get_or c.args.starts.now c.args.s.i 0 =
-    c.start_of-lo.ensures in
-    let end_is : c.start_of-end.result ≡ get_or c.args.starts.now (c.args.s.i + 1) 0 =
-    c.start_of-end.ensures in
-    let rises : c.start_of-lo.result ≤ c.start_of-end.result =
-    list_rises c.requires.planned.prepared c.requires.inside lo_is end_is in
-    rises
-
-pub slice_bounds-choose-end : goal.slice_bounds-choose-end
-slice_bounds-choose-end c =
-    let lo_is : c.start_of-lo.result ≡ get_or c.args.starts.now c.args.s.i 0 =
-    c.start_of-lo.ensures in
-    let end_is : c.start_of-end.result ≡ get_or c.args.starts.now (c.args.s.i + 1) 0 =
-    c.start_of-end.ensures in
-    let ends : c.start_of-end.result ≤ length c.args.slots.now =
-    list_ends c.requires.planned.prepared c.requires.inside lo_is end_is in
-    ends
+    let pre = c.requires in record {
+      below = list_below pre.planned.prepared pre.inside lo_is end_is pre.sides.marks_all;
+      list_len_bound = (few, omega (arith, pre.inside, few_entries pre.planned.card));
+    }
 
 pub choose-chosen-requires : goal.choose-chosen-requires
 choose-chosen-requires c =
@@ -127,18 +38,6 @@ choose-chosen-requires c =
     let end_is : c.start_of-end.result ≡ get_or c.args.starts.now (c.args.s.i + 1) 0 =
     c.start_of-end.ensures in
     list_below c.requires.planned.prepared c.requires.inside lo_is end_is refl
-
-pub overflow_add-lo : goal.overflow_add-lo
-overflow_add-lo c =
-    let lo_is : c.start_of-lo.result ≡ get_or c.args.starts.now c.args.s.i 0 =
-    c.start_of-lo.ensures in
-    let end_is : c.start_of-end.result ≡ get_or c.args.starts.now (c.args.s.i + 1) 0 =
-    c.start_of-end.ensures in
-    let ends : c.start_of-end.result ≤ length c.args.slots.now =
-    list_ends c.requires.planned.prepared c.requires.inside lo_is end_is in
-    let there : c.choose-chosen.result.at < c.start_of-end.result - c.start_of-lo.result =
-    taken_there c.requires lo_is end_is c.cell_of.ensures.is c.choose-chosen.ensures in
-    omega (arith, there, ends, c.well_formed)
 
 pub at16-e-requires : goal.at16-e-requires
 at16-e-requires c =

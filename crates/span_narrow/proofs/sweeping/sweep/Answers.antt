@@ -15,10 +15,6 @@ sweep_place-requires c =
     let back = back_one inv.0.0 inv.0.1 c.loop-i-test.true in
     record { planned = (c.requires.planned.0, omega (arith, inv.1, c.loop-i-test.true)); sides = back.0; half = back.1 }
 
-pub loop-i-smaller : goal.loop-i-smaller
-loop-i-smaller c =
-    omega (arith, c.loop-i-test.true)
-
 pub loop-i-preserved : goal.loop-i-preserved
 loop-i-preserved c =
     let inv = c.loop-i.invariant in (
@@ -27,14 +23,6 @@ loop-i-preserved c =
       omega (arith, c.marks-in-loop-i-1.given, inv.2),
       omega (arith, c.table-1.given, inv.3),
     )
-
-pub shape_of-marks : goal.shape_of-marks
-shape_of-marks c =
-    omega (arith, c.loop-i.invariant.2, c.marks-1.given)
-
-pub shape_of-table : goal.shape_of-table
-shape_of-table c =
-    c.loop-i.invariant.3
 
 pub returns : goal.returns
 returns c =

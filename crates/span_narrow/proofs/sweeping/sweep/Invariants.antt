@@ -9,7 +9,8 @@ use Rattle.span_narrow.proofs.sweeping.sweep.Given as goal
 
 abbrev pub invariant-loop-i : goal.invariant-loop-i
 invariant-loop-i l =
-    (Sides (plan_of l.l l.words l.twos l.starts l.slots) l.marks l.i l.i × Half (plan_of l.l l.words l.twos l.starts l.slots) l.table l.i 0) × (l.i ≤ length l.words)
+    (Sides (plan_of l.l l.words l.twos l.starts l.slots) l.marks l.i l.i × Half (plan_of l.l l.words l.twos l.starts l.slots) l.table l.i 0) ×
+    (l.i ≤ length l.words)
     × (length l.marks ≡ length l.initial.marks) × (length l.table ≡ length l.initial.table)
 
 abbrev pub decreases-loop-i : goal.decreases-loop-i

@@ -3,40 +3,19 @@
 use mathlib.Core.Path.{◌≡◌, refl}
 use Prim.Native.Nat.{◌+◌, ◌-◌, ◌^◌, ◌≤◌, ◌<◌}
 use native.Mathlib.Omega.{arith}
-use lib.ListN.{length, get_or, take, drop}
+use lib.ListN.{get_or, take, drop}
 use lib.Pow.{pow_mono}
-use Rattle.card_entries.proofs.HoldLaws.{few_entries}
 use Rattle.span_layers.specs.Narrow.{most_over}
 use Rattle.span_tables.specs.Prepared.{list_at}
-use Rattle.span_steps.proofs.PlaceLaws.{list_rises, list_ends, list_lent}
+use Rattle.span_steps.proofs.PlaceLaws.{list_lent}
 use Rattle.span_narrow.specs.Digits.{MarkedBy}
 use Rattle.span_narrow.specs.Plan.{Plan, plan_of}
 use Rattle.span_narrow.specs.States.{cells_over, Sides}
 use Rattle.span_narrow.specs.Stepping.{Trying}
 use Rattle.span_narrow.proofs.StateLaws.{list_few}
 use Rattle.span_narrow.proofs.SideLaws.{sides_spread, spread_asks}
-use Rattle.span_narrow.proofs.SweepLaws.{cell_there, half_skip, half_trying, half_store}
+use Rattle.span_narrow.proofs.SweepLaws.{half_skip, half_trying, half_store}
 use Rattle.span_narrow.proofs.sweeping.sweep_state.Goals as goal
-
-pub overflow_mul-cell : goal.overflow_mul-cell
-overflow_mul-cell c =
-    omega (arith, c.requires.sweeping.inside, few_entries c.requires.sweeping.planned.card)
-
-pub overflow_add-cell : goal.overflow_add-cell
-overflow_add-cell c =
-    let few : c.args.s.b < cells_over =
-    let low : 2 ^ (get_or c.args.starts.now (c.args.s.i + 1) 0 - get_or c.args.starts.now c.args.s.i 0) ≤ 2 ^ most_over =
-    pow_mono {j = most_over} (list_few c.requires.sweeping.planned c.requires.sweeping.inside refl refl) in
-    omega (arith, c.requires.b_bound) in
-    omega (arith, c.requires.sweeping.inside, few_entries c.requires.sweeping.planned.card, few)
-
-pub bounds-table-cell : goal.bounds-table-cell
-bounds-table-cell c =
-    let few : c.args.s.b < cells_over =
-    let low : 2 ^ (get_or c.args.starts.now (c.args.s.i + 1) 0 - get_or c.args.starts.now c.args.s.i 0) ≤ 2 ^ most_over =
-    pow_mono {j = most_over} (list_few c.requires.sweeping.planned c.requires.sweeping.inside refl refl) in
-    omega (arith, c.requires.b_bound) in
-    cell_there c.requires.sweeping.half c.requires.sweeping.inside few
 
 pub returns-then-table-cell-eq0 : goal.returns-then-table-cell-eq0
 returns-then-table-cell-eq0 c =
@@ -51,55 +30,9 @@ pub start_of-lo-requires : goal.start_of-lo-requires
 start_of-lo-requires c =
     omega (arith, c.requires.sweeping.inside, c.requires.sweeping.planned.prepared.starts_all)
 
-pub overflow_add-i : goal.overflow_add-i
-overflow_add-i c =
-    omega (arith, c.requires.sweeping.inside, few_entries c.requires.sweeping.planned.card)
-
 pub start_of-end-requires : goal.start_of-end-requires
 start_of-end-requires c =
     omega (arith, c.requires.sweeping.inside, c.requires.sweeping.planned.prepared.starts_all)
-
-pub offset_bounds-slots-lo : goal.offset_bounds-slots-lo
-offset_bounds-slots-lo c =
-    let lo_is : c.start_of-lo.result ≡ get_or c.args.starts.now c.args.s.i 0 =
-    c.start_of-lo.ensures in
-    let end_is : c.start_of-end.result ≡ get_or c.args.starts.now (c.args.s.i + 1) 0 =
-    c.start_of-end.ensures in
-    let rises : c.start_of-lo.result ≤ c.start_of-end.result =
-    list_rises c.requires.sweeping.planned.prepared c.requires.sweeping.inside lo_is end_is in
-    let ends : c.start_of-end.result ≤ length c.args.slots.now =
-    list_ends c.requires.sweeping.planned.prepared c.requires.sweeping.inside lo_is end_is in
-    omega (arith, rises, ends, c.well_formed)
-
-pub slice_bounds-spread-count : goal.slice_bounds-spread-count
-slice_bounds-spread-count c =
-    let lo_is : c.start_of-lo.result ≡ get_or c.args.starts.now c.args.s.i 0 =
-    c.start_of-lo.ensures in
-    let end_is : c.start_of-end.result ≡ get_or c.args.starts.now (c.args.s.i + 1) 0 =
-    c.start_of-end.ensures in
-    let rises : c.start_of-lo.result ≤ c.start_of-end.result =
-    list_rises c.requires.sweeping.planned.prepared c.requires.sweeping.inside lo_is end_is in
-    rises
-
-pub slice_bounds-spread-start : goal.slice_bounds-spread-start
-slice_bounds-spread-start c =
-    let lo_is : c.start_of-lo.result ≡ get_or c.args.starts.now c.args.s.i 0 =
-    c.start_of-lo.ensures in
-    let end_is : c.start_of-end.result ≡ get_or c.args.starts.now (c.args.s.i + 1) 0 =
-    c.start_of-end.ensures in
-    let rises : c.start_of-lo.result ≤ c.start_of-end.result =
-    list_rises c.requires.sweeping.planned.prepared c.requires.sweeping.inside lo_is end_is in
-    rises
-
-pub slice_bounds-spread-end : goal.slice_bounds-spread-end
-slice_bounds-spread-end c =
-    let lo_is : c.start_of-lo.result ≡ get_or c.args.starts.now c.args.s.i 0 =
-    c.start_of-lo.ensures in
-    let end_is : c.start_of-end.result ≡ get_or c.args.starts.now (c.args.s.i + 1) 0 =
-    c.start_of-end.ensures in
-    let ends : c.start_of-end.result ≤ length c.args.slots.now =
-    list_ends c.requires.sweeping.planned.prepared c.requires.sweeping.inside lo_is end_is in
-    ends
 
 pub spread-requires : goal.spread-requires
 spread-requires c =
@@ -117,7 +50,8 @@ chances-requires c =
     c.start_of-lo.ensures in
     let end_is : c.start_of-end.result ≡ get_or c.args.starts.now (c.args.s.i + 1) 0 =
     c.start_of-end.ensures in
-    let lent : take (c.start_of-end.result - c.start_of-lo.result) (drop c.start_of-lo.result c.args.slots.now) ≡ list_at c.args.starts.now c.args.slots.now c.args.s.i =
+    let lent : take (c.start_of-end.result - c.start_of-lo.result) (drop c.start_of-lo.result c.args.slots.now)
+    ≡ list_at c.args.starts.now c.args.slots.now c.args.s.i =
     list_lent c.requires.sweeping.planned.prepared c.requires.sweeping.inside lo_is end_is in
     let spread-is : MarkedBy (list_at c.args.starts.now c.args.slots.now c.args.s.i) c.args.marks.now c.args.s.b c.spread.new.marks =
     rw lent at c.spread.ensures in
@@ -130,14 +64,6 @@ chances-requires c =
     c.if-table-cell-eq0.false in
     trying
 
-pub bounds-table-cell-2 : goal.bounds-table-cell-2
-bounds-table-cell-2 c =
-    let few : c.args.s.b < cells_over =
-    let low : 2 ^ (get_or c.args.starts.now (c.args.s.i + 1) 0 - get_or c.args.starts.now c.args.s.i 0) ≤ 2 ^ most_over =
-    pow_mono {j = most_over} (list_few c.requires.sweeping.planned c.requires.sweeping.inside refl refl) in
-    omega (arith, c.requires.b_bound) in
-    cell_there c.requires.sweeping.half c.requires.sweeping.inside few
-
 pub returns : goal.returns
 returns c =
     let few : c.args.s.b < cells_over =
@@ -148,7 +74,8 @@ returns c =
     c.start_of-lo.ensures in
     let end_is : c.start_of-end.result ≡ get_or c.args.starts.now (c.args.s.i + 1) 0 =
     c.start_of-end.ensures in
-    let lent : take (c.start_of-end.result - c.start_of-lo.result) (drop c.start_of-lo.result c.args.slots.now) ≡ list_at c.args.starts.now c.args.slots.now c.args.s.i =
+    let lent : take (c.start_of-end.result - c.start_of-lo.result) (drop c.start_of-lo.result c.args.slots.now)
+    ≡ list_at c.args.starts.now c.args.slots.now c.args.s.i =
     list_lent c.requires.sweeping.planned.prepared c.requires.sweeping.inside lo_is end_is in
     let spread-is : MarkedBy (list_at c.args.starts.now c.args.slots.now c.args.s.i) c.args.marks.now c.args.s.b c.spread.new.marks =
     rw lent at c.spread.ensures in
