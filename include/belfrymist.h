@@ -55,14 +55,14 @@ enum {
 
 /* Bytes of stack that a call takes at most: measured on x86-64 over the samples, the largest cards of both kinds and the longest record of a build,
  * and not proved. Each number is what was measured, rounded up to a multiple of 8,192, for importing of 1,024, and for any other call of 512.
- * Building takes about 58,600 bytes on a pair card, and on a span card about 25,200 and 320 more for each entry that it places. Settling takes as
- * much for a small card as for a full one.
+ * Building takes about 58,400 bytes on a pair card, and on a span card about 25,000 and 208 more for each entry that it places, but no less than
+ * 30,000. Settling takes as much for a small card as for a full one.
  *
  * A thread takes more stack than the call that it makes: about 4,400 bytes more, measured on x86-64 with glibc 2.36 and not proved, for what the
  * thread library keeps there and for the function that the thread begins in. Give a thread 8,192 bytes more than the number here, and the bytes of
  * the program's thread-local variables, and no less than PTHREAD_STACK_MIN. */
 enum {
-    BELFRYMIST_STACK = 188416,          /* belfrymist_build */
+    BELFRYMIST_STACK = 131072,          /* belfrymist_build */
     BELFRYMIST_STACK_SETTLING = 90112,  /* belfrymist_settle and belfrymist_settle_lists */
     BELFRYMIST_STACK_COUNTING = 40960,  /* belfrymist_count and belfrymist_count_lists */
     BELFRYMIST_STACK_IMPORTING = 5120,  /* belfrymist_import */
