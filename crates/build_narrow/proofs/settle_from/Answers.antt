@@ -1,5 +1,4 @@
 -- `settle_from` meets its contract: the room, the kind and the widths in turn, and then what the method finds. Assumes nothing.
--- ---- the places
 use Prim.Native.Nat.{◌≤◌}
 use native.Mathlib.Omega.{arith}
 use lib.ListN.{length}
@@ -12,8 +11,6 @@ use Rattle.build_narrow.specs.Passing.{PassesTests}
 use Rattle.build_narrow.proofs.TestLaws.{lists_no_room, lists_has_room}
 use Rattle.build_narrow.proofs.SettlingLaws.{building_refused, spans_refused, lists_long, spans_pass, passes_as_span, span_settles}
 use Rattle.build_narrow.proofs.settle_from.Goals as goal
-
--- ---- the needs
 
 pub letters_in-requires : goal.letters_in-requires
 letters_in-requires c =

@@ -1,5 +1,4 @@
 -- `settle_narrow` meets its contract: what the method finds is spelled into the start of the output. Assumes nothing.
--- ---- the lists
 use mathlib.Core.Path.{◌≡◌, sym}
 use mathlib.Core.List.{List}
 use Prim.Native.Nat.{ℕ, ◌+◌, ◌≤◌}
@@ -14,8 +13,6 @@ use Rattle.build_card.proofs.FromLaws.{says_lettered}
 use Rattle.build_narrow.proofs.TestLaws.{passes_hold, passes_room, passes_narrow}
 use Rattle.build_narrow.proofs.SettlingLaws.{start_settles}
 use Rattle.build_narrow.proofs.settle_narrow.Goals as goal
-
--- ---- the needs
 
 pub letters_in-n-requires : goal.letters_in-n-requires
 letters_in-n-requires c =
