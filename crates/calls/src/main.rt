@@ -40,8 +40,7 @@ mod settle;
 ghost use Rattle.std.specs.Prelude.{◌≤◌};
 ghost use Rattle.test_records.specs.Record.{field_bytes};
 
-use std::io;
-use std::io::{BufReader, BufWriter, Read, Write};
+use std::io::{Read, Write};
 use test_records::input::FIELDS;
 use test_records::{input, output};
 
@@ -106,9 +105,6 @@ fn run_all(from: &mut impl Read, to: &mut impl Write) {
     }
 }
 
-fn main(rt: HostRuntime) -> io::Result<()> {
-    let mut from = BufReader::new(rt.alloc(), rt.reader())?;
-    let mut to = BufWriter::new(rt.alloc(), io::writer(&rt))?;
-    run_all(&mut from, &mut to);
-    to.flush()
+fn main(rt: HostRuntime) {
+    run_all(&mut rt.stdin(), &mut rt.stdout());
 }

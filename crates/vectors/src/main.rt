@@ -33,8 +33,7 @@ ghost use Rattle.std.specs.Prelude.{◌≤◌, length};
 ghost use Rattle.test_records.specs.Record.{field_bytes};
 
 use cards::Turn;
-use std::io;
-use std::io::{BufReader, BufWriter, Read, Write};
+use std::io::{Read, Write};
 use test_records::input::FIELDS;
 use test_records::{input, output};
 
@@ -148,10 +147,7 @@ fn run_all(from: &mut impl Read, to: &mut impl Write, card: &mut [u8]) {
     }
 }
 
-fn main(rt: HostRuntime) -> io::Result<()> {
-    let mut from = BufReader::new(rt.alloc(), rt.reader())?;
-    let mut to = BufWriter::new(rt.alloc(), io::writer(&rt))?;
+fn main(rt: HostRuntime) {
     let mut card = [0u8; MOST];
-    run_all(&mut from, &mut to, &mut card);
-    to.flush()
+    run_all(&mut rt.stdin(), &mut rt.stdout(), &mut card);
 }
