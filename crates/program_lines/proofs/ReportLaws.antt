@@ -80,7 +80,7 @@ module _ (before : List ℕ) (said : Answer Outcome) {card letters : List ℕ} {
     (output : letters ≡ letters_after said before) where
   said_tellable : (IsGiven (answer_of said) → block_bytes ≤ length card) → Tellable card r letters
   said_tellable there =
-      rw (answer, output) (record { there = there; letters_in_lem = length_said before said })
+      rw (answer, output) (record { there = there; letters_there = length_said before said })
 
   said_reported : (Says : Answer Outcome → Type 0) {out after : List ℕ} {n : ℕ} → Says said
       → Put (lines_by (told_by card) r letters) 0 out n after

@@ -43,4 +43,4 @@ IsGiven (Refused r) = ⊥
 
 pub record Tellable (card : List ℕ) (r : BuildAnswer) (letters : List ℕ) : Type 0 where
   pub there : IsGiven r → block_bytes ≤ length card
-  pub letters_in_lem : length_in r ≤ length letters
+  pub letters_there : length_in r ≤ length letters

@@ -10,13 +10,13 @@ use Rattle.program_converting.proofs.to_fasta.convert.Goals as goal
 -- the letters of a sole build are in the buffer
 
 pub slice_bounds-letters-end : goal.slice_bounds-letters-end
-slice_bounds-letters-end c = length_case c.in-Sole.is (build_tellable c.build-answer.ensures).letters_in_lem
+slice_bounds-letters-end c = length_case c.in-Sole.is (build_tellable c.build-answer.ensures).letters_there
 
 pub slice_bounds-put_record-end : goal.slice_bounds-put_record-end
-slice_bounds-put_record-end c = sym (length-take-le _ _ (length_case c.in-Sole.is (build_tellable c.build-answer.ensures).letters_in_lem))
+slice_bounds-put_record-end c = sym (length-take-le _ _ (length_case c.in-Sole.is (build_tellable c.build-answer.ensures).letters_there))
 
 pub put-errors-requires-clause-letters_there : goal.put-errors-requires-clause-letters_there
-put-errors-requires-clause-letters_there c = (build_tellable c.build-answer.ensures).letters_in_lem
+put-errors-requires-clause-letters_there c = (build_tellable c.build-answer.ensures).letters_there
 
 -- ---- each case
 
