@@ -1,4 +1,4 @@
-// The parts of a line, written to the output as they come. What the output does not take is left out: a program's last flush says so.
+// The parts of a line, written to the output as they come. What the output does not take is left out, and told nowhere.
 use crate::hashes;
 use base_answers::Refusal;
 use std::io::Write;
