@@ -32,7 +32,7 @@ there = "$(DESTDIR)$(PREFIX)/$(1)"
 all: every_crate programs $(LIBRARY)
 
 every_crate:
-	rt all check
+	rt all test
 
 programs: $(PROGRAMS:%=target/bin/%)
 

@@ -62,15 +62,6 @@ written_said limit name before (given (settled no_build n)) = ap on_errors (verd
 written_said limit name before (given (unsettled n)) = ap on_errors (verdict_said before (unsettled n))
 written_said limit name before (refused n p) = refl
 
--- the three cases between the first and the last
-verdict_by_lem : (limit : ℕ) (name letters : List ℕ) (r : BuildAnswer) → OneOf (1 ∷ 2 ∷ 3 ∷ []) (tag_of the_type r)
-    → on_errors (verdict_by r letters) ≡ written_by limit name r letters
-verdict_by_lem limit name letters (Sole n k) is = absurd (miss (1 ∷ 2 ∷ 3 ∷ []) 0 tt is)
-verdict_by_lem limit name letters (Several n k) is = refl
-verdict_by_lem limit name letters (None k) is = refl
-verdict_by_lem limit name letters (Unsettled k) is = refl
-verdict_by_lem limit name letters (Refused x) is = absurd (miss (1 ∷ 2 ∷ 3 ∷ []) 4 tt is)
-
 -- what is neither `Sole` nor `Refused`
 other_by : (limit : ℕ) (name letters : List ℕ) (r : BuildAnswer) → ((n k : ℕ) → r ≡ Sole n k → ⊥) → ((x : Refusal) → r ≡ Refused x → ⊥)
     → on_errors (verdict_by r letters) ≡ written_by limit name r letters
@@ -79,6 +70,17 @@ other_by limit name letters (Several n k) built refuses = refl
 other_by limit name letters (None k) built refuses = refl
 other_by limit name letters (Unsettled k) built refuses = refl
 other_by limit name letters (Refused x) built refuses = absurd (refuses x refl)
+
+-- the three cases between the first and the last are neither
+between_sole : {r : BuildAnswer} → OneOf (1 ∷ 2 ∷ 3 ∷ []) (tag_of the_type r) → (n k : ℕ) → r ≡ Sole n k → ⊥
+between_sole is n k e = miss (1 ∷ 2 ∷ 3 ∷ []) 0 tt (rw e at is)
+
+between_refused : {r : BuildAnswer} → OneOf (1 ∷ 2 ∷ 3 ∷ []) (tag_of the_type r) → (x : Refusal) → r ≡ Refused x → ⊥
+between_refused is x e = miss (1 ∷ 2 ∷ 3 ∷ []) 4 tt (rw e at is)
+
+verdict_by_lem : (limit : ℕ) (name letters : List ℕ) (r : BuildAnswer) → OneOf (1 ∷ 2 ∷ 3 ∷ []) (tag_of the_type r)
+    → on_errors (verdict_by r letters) ≡ written_by limit name r letters
+verdict_by_lem limit name letters r is = other_by limit name letters r (between_sole is) (between_refused is)
 
 module _ {limit : ℕ} {card before letters : List ℕ} {r : BuildAnswer} (room : length before ≡ letters_room limit)
     (built : Builds limit card program_budget before r letters) where
@@ -99,11 +101,11 @@ module _ {limit : ℕ} {card before letters : List ℕ} {r : BuildAnswer} (room 
         → ToFasta limit card name out err (record { output = 0; errors = n }) out err'
     refusal_written is put = by_answer_lem (rw is (errors_written out put))
 
-    pub verdict_written : OneOf (1 ∷ 2 ∷ 3 ∷ []) (tag_of the_type r) → Put (verdict_by r letters) 0 err n err'
-        → ToFasta limit card name out err (record { output = 0; errors = n }) out err'
-    verdict_written is put = by_answer_lem (rw (verdict_by_lem limit name letters r is) at (errors_written out put))
-
     pub other_written : ((n k : ℕ) → r ≡ Sole n k → ⊥) → ((x : Refusal) → r ≡ Refused x → ⊥) → Put (verdict_by r letters) 0 err n err'
         → ToFasta limit card name out err (record { output = 0; errors = n }) out err'
     other_written no_sole no_refusal put =
         by_answer_lem (rw (other_by limit name letters r no_sole no_refusal) at (errors_written out put))
+
+    pub verdict_written : OneOf (1 ∷ 2 ∷ 3 ∷ []) (tag_of the_type r) → Put (verdict_by r letters) 0 err n err'
+        → ToFasta limit card name out err (record { output = 0; errors = n }) out err'
+    verdict_written is = other_written (between_sole is) (between_refused is)

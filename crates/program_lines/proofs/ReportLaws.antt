@@ -58,14 +58,6 @@ pub given_lines : (f : Format) (letters : List ℕ) (r : BuildAnswer) {out after
     → Put (lines_by f r letters) 0 out n after
 given_lines f letters r is put = put_as put (given_by f letters r is)
 
--- the first four cases are no refusal
-pub given_case : (r : BuildAnswer) → OneOf (0 ∷ 1 ∷ 2 ∷ 3 ∷ []) (tag_of the_type r) → IsGiven r
-given_case (Sole n k) is = tt
-given_case (Several n k) is = tt
-given_case (None k) is = tt
-given_case (Unsettled k) is = tt
-given_case (Refused x) is = absurd (miss (0 ∷ 1 ∷ 2 ∷ 3 ∷ []) 4 tt is)
-
 -- what is not `Refused` is no refusal
 pub given_other : (r : BuildAnswer) → ((x : Refusal) → r ≡ Refused x → ⊥) → IsGiven r
 given_other (Sole n k) other = tt
@@ -73,6 +65,10 @@ given_other (Several n k) other = tt
 given_other (None k) other = tt
 given_other (Unsettled k) other = tt
 given_other (Refused x) other = absurd (other x refl)
+
+-- so the first four cases are none
+pub given_case : (r : BuildAnswer) → OneOf (0 ∷ 1 ∷ 2 ∷ 3 ∷ []) (tag_of the_type r) → IsGiven r
+given_case r is = given_other r (λ x e. miss (0 ∷ 1 ∷ 2 ∷ 3 ∷ []) 4 tt (rw e at is))
 
 -- ---- what was answered, and the letters after it
 

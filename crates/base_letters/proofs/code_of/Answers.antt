@@ -1,5 +1,4 @@
--- `base_letters::code_of` meets its contract. The invariant: the search of the letters that are left is the search of all.
--- Assumes nothing.
+-- The goals of `base_letters::code_of` that the check leaves open; Invariants.antt says how it is met. Assumes nothing.
 use borrow.Author.Rules.{rules}
 use mathlib.Core.Path.{sym, ◌∙◌}
 use native.Mathlib.Omega.{arith}

@@ -1,4 +1,4 @@
--- `put_text` meets its contract: one byte more stands in each turn (`put_so_far_turn`). What falls is how many are left. Assumes nothing.
+-- The goals of `put_text` that the check leaves open; Invariants.antt says how it is met. Assumes nothing.
 use native.Mathlib.Omega.{arith}
 use Rattle.base_text.proofs.PuttingLaws.{put_so_far_none, put_so_far_length, put_so_far_turn, put_so_far_all}
 use Rattle.base_text.proofs.put_text.Goals as goal

@@ -1,5 +1,4 @@
--- `widths_hold` meets its contract. The invariant: the tests of the entries that are left answer as those of all do. What falls is how many
--- are left. Assumes nothing.
+-- The goals of `widths_hold` that the check leaves open; Invariants.antt says how it is met. Assumes nothing.
 use mathlib.Core.Path.{◌≡◌, sym, ap, ◌∙◌}
 use mathlib.Core.Bool.{not}
 use mathlib.Core.List.{[]}

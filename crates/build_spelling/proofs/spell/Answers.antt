@@ -1,4 +1,4 @@
--- `spell` meets its contract: one letter more stands in each turn (`filling_turn`). What falls is how many are left. Assumes nothing.
+-- The goals of `spell` that the check leaves open; Invariants.antt says how it is met. Assumes nothing.
 use mathlib.Core.Path.{◌≡◌, ap, ◌∙◌}
 use mathlib.Core.List.{List}
 use Prim.Native.Nat.{ℕ, ◌+◌}

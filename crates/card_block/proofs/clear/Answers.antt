@@ -1,4 +1,4 @@
--- `card_block::clear` meets its contract: one zero more in each turn (`clear_turn`). What falls is what is left. Assumes nothing.
+-- The goals of `card_block::clear` that the check leaves open; Invariants.antt says how it is met. Assumes nothing.
 use native.Mathlib.Omega.{arith}
 use Rattle.base_lists.proofs.PutLaws.{clear_start, clear_turn, clear_length, clear_end}
 use Rattle.card_block.proofs.clear.Goals as goal

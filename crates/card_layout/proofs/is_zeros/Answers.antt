@@ -1,4 +1,4 @@
--- `card_layout::is_zeros` meets its contract. The invariant: what was looked at and what is left are zeros exactly if all is. Assumes nothing.
+-- The goals of `card_layout::is_zeros` that the check leaves open; Invariants.antt says how it is met. Assumes nothing.
 use borrow.Author.Rules.{rules}
 use mathlib.Core.Path.{refl}
 use Rattle.card_layout.proofs.Laws.{zeros_turn, zeros_end}

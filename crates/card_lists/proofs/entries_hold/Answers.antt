@@ -1,5 +1,4 @@
--- `card_lists::entries_hold` meets its contract. The invariant: the tests of the entries that are left answer as those of all do. What falls is
--- how many are left. Assumes nothing.
+-- The goals of `card_lists::entries_hold` that the check leaves open; Invariants.antt says how it is met. Assumes nothing.
 use mathlib.Core.Path.{◌≡◌, sym, ◌∙◌}
 use Prim.Native.Nat.{ℕ, ◌-◌}
 use native.Mathlib.Omega.{arith}

@@ -1,5 +1,4 @@
--- `card_writer::put_card` meets its contract: block 0, and then one block more in each turn (`blocked_turn`). What falls is how many are left.
--- Assumes nothing.
+-- The goals of `card_writer::put_card` that the check leaves open; Invariants.antt says how it is met. Assumes nothing.
 use mathlib.Core.Path.{◌≡◌, refl}
 use mathlib.Core.List.{List, ◌++◌}
 use Prim.Native.Nat.{ℕ, ◌+◌, ◌*◌, ◌-◌}

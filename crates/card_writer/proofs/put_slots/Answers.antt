@@ -1,4 +1,4 @@
--- `card_writer::put_slots` meets its contract: one slot more in each turn (`slotted_turn`). What falls is how many are left. Assumes nothing.
+-- The goals of `card_writer::put_slots` that the check leaves open; Invariants.antt says how it is met. Assumes nothing.
 use native.Mathlib.Omega.{arith}
 use Rattle.card_writer.proofs.PuttingLaws.{slotted_none, slotted_turn, slotted_length, slotted_all}
 use Rattle.card_writer.proofs.put_slots.Goals as goal

@@ -1,4 +1,4 @@
--- `pair_choosing::choose_all` meets its contract. The loop's invariant is `Deciding` of proofs/Deciding.antt. Assumes nothing.
+-- The goals of `pair_choosing::choose_all` that the check leaves open; Invariants.antt says how it is met. Assumes nothing.
 use Prim.Native.Nat.{◌<◌}
 use native.Mathlib.Omega.{arith}
 use Rattle.pair_following.specs.Following.{count_in}

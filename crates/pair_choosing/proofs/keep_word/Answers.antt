@@ -1,5 +1,4 @@
--- `pair_choosing::keep_word` meets its contract. The loop goes through the list of t (`Listing`), with `Dropping` of proofs/Choosing.antt.
--- Assumes nothing.
+-- The goals of `pair_choosing::keep_word` that the check leaves open; Invariants.antt says how it is met. Assumes nothing.
 use Rattle.pair_following.proofs.Slots.{list_start, list_none, slot_low, list_entry, list_stands, list_more, list_less, list_next}
 use Rattle.pair_choosing.proofs.Choosing.{dropping_start, dropping_more, dropping_stops, dropping_end}
 use Rattle.pair_choosing.proofs.keep_word.Goals as goal

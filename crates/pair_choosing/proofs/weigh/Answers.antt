@@ -1,4 +1,4 @@
--- `pair_choosing::weigh` meets its contract. The loop goes through the list of t (`Listing`). Assumes nothing.
+-- The goals of `pair_choosing::weigh` that the check leaves open; Invariants.antt says how it is met. Assumes nothing.
 use Rattle.pair_following.proofs.Slots.{list_start, list_none, slot_low, list_entry, list_stands, list_more, list_less, list_next}
 use Rattle.pair_choosing.proofs.Choosing.{kept_none, weighed_start, weighing_more, weighed_end}
 use Rattle.pair_choosing.proofs.weigh.Goals as goal

@@ -1,4 +1,4 @@
--- `pair_choosing::words_at` meets its contract. The loop goes through the list of t (`Listing`). Assumes nothing.
+-- The goals of `pair_choosing::words_at` that the check leaves open; Invariants.antt says how it is met. Assumes nothing.
 use Rattle.pair_following.proofs.Slots.{list_start, list_none, slot_low, list_entry, list_more, list_less, list_next}
 use Rattle.pair_following.proofs.CommonLaws.{common_start, common_end}
 use Rattle.pair_choosing.proofs.Choosing.{common_also}

@@ -1,5 +1,4 @@
--- `pair_following::can_be_filled` meets its contract. The loop goes through the list of q; the entries behind it cannot come to stand there
--- (`NoneFrom`). Assumes nothing.
+-- The goals of `pair_following::can_be_filled` that the check leaves open; Invariants.antt says how it is met. Assumes nothing.
 use mathlib.Core.Bool.{true≢false}
 use Rattle.pair_following.proofs.Slots.{none_start, none_more, none_end, slot_low, list_entry, list_less}
 use Rattle.pair_following.proofs.can_be_filled.Goals as goal

@@ -1,5 +1,4 @@
--- `pair_following::clear` meets its contract. The loop goes through the list of q; the entries from slot k on are free of e (`Clearing`,
--- proofs/PlaceLaws.antt). The measure is k. Assumes nothing.
+-- The goals of `pair_following::clear` that the check leaves open; Invariants.antt says how it is met. Assumes nothing.
 use Prim.Native.Nat.{◌<◌}
 use Rattle.pair_following.specs.Following.{nth, count_in}
 use Rattle.pair_following.proofs.StepLaws.{grown_stops, grown_ok}

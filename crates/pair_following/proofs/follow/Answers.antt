@@ -1,5 +1,4 @@
--- `pair_following::follow` meets its contract. The loop's invariant: each placed entry has all others free, but for those on the trail
--- from top on (`Chasing`, proofs/PlaceLaws.antt). The measure is what is left of the trail's room. Assumes nothing.
+-- The goals of `pair_following::follow` that the check leaves open; Invariants.antt says how it is met. Assumes nothing.
 use native.Mathlib.Omega.{arith}
 use Rattle.pair_following.proofs.ExclusionLaws.{room}
 use Rattle.pair_following.proofs.StepLaws.{grown_ok, grown_stops}

@@ -1,5 +1,4 @@
--- `pair_following::undo` meets its contract. The loop's invariant is `Undoing` of proofs/UndoLaws.antt; the measure is what is left of the
--- trail. Assumes nothing.
+-- The goals of `pair_following::undo` that the check leaves open; Invariants.antt says how it is met. Assumes nothing.
 use Rattle.pair_following.proofs.UndoLaws.{undo_start, undo_more, undo_end}
 use Rattle.pair_following.proofs.undo.Goals as goal
 

@@ -1,4 +1,4 @@
--- `pair_forcing::count_up` keeps the length; it promises nothing of the counts. Assumes nothing.
+-- The goals of `pair_forcing::count_up` that the check leaves open; Invariants.antt says how it is met. Assumes nothing.
 use mathlib.Core.Path.{refl, ◌∙◌}
 use Prim.Native.Nat.{◌*◌, ◌<◌}
 use native.Mathlib.Omega.{arith}

@@ -1,4 +1,4 @@
--- `pair_forcing::entries_at` meets its contract. The loop goes through the list of t (`Listing`). Assumes nothing.
+-- The goals of `pair_forcing::entries_at` that the check leaves open; Invariants.antt says how it is met. Assumes nothing.
 use mathlib.Core.Logic.{inl, inr, ⊎_elim}
 use Rattle.pair_following.specs.Following.{pairs_of}
 use Rattle.pair_following.proofs.Slots.{list_start, list_none, slot_low, list_entry, list_more, list_less, list_next}

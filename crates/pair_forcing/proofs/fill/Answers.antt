@@ -1,4 +1,4 @@
--- `pair_forcing::fill` meets its contract. Assumes nothing.
+-- The goals of `pair_forcing::fill` that the check leaves open; Invariants.antt says how it is met. Assumes nothing.
 use mathlib.Core.Path.{◌≡◌, ap, ◌∙◌}
 use Prim.Native.Nat.{ℕ, ◌<◌, ◌≤◌}
 use native.Mathlib.Omega.{arith}

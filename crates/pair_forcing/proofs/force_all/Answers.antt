@@ -1,4 +1,4 @@
--- `pair_forcing::force_all` meets its contract. Assumes nothing.
+-- The goals of `pair_forcing::force_all` that the check leaves open; Invariants.antt says how it is met. Assumes nothing.
 use mathlib.Core.Bool.{true≢false}
 use Prim.Native.Nat.{◌<◌}
 use Rattle.pair_following.specs.Following.{count_in}

@@ -1,4 +1,4 @@
--- `pair_forcing::spread` meets its contract. Assumes nothing.
+-- The goals of `pair_forcing::spread` that the check leaves open; Invariants.antt says how it is met. Assumes nothing.
 use mathlib.Core.Path.{◌∙◌}
 use mathlib.Core.Bool.{true≢false}
 use Prim.Native.Nat.{◌<◌}

@@ -1,4 +1,4 @@
--- `pair_method::enter_all` meets its contract. The loop's invariant is `Entering` of proofs/EnterLaws.antt. Assumes nothing.
+-- The goals of `pair_method::enter_all` that the check leaves open; Invariants.antt says how it is met. Assumes nothing.
 use mathlib.Core.Path.{refl}
 use Rattle.pair_method.proofs.EnterLaws.{entering_start, entering_more, entering_end, enter_room}
 use Rattle.pair_method.proofs.enter_all.Goals as goal

@@ -1,5 +1,4 @@
--- `bits_of` meets its contract: the loop keeps that the marks of the first k entries are told (`Telling`). What falls is how many are left.
--- Assumes nothing.
+-- The goals of `bits_of` that the check leaves open; Invariants.antt says how it is met. Assumes nothing.
 use native.Mathlib.Omega.{arith}
 use lib.ListN.{get_or}
 use Rattle.base_lists.proofs.FillingLaws.{get_d_in}

@@ -1,5 +1,4 @@
--- `crowded` meets its contract: the loop keeps that no place before i is crowded (`Uncrowded`). What falls is how many are left. Assumes
--- nothing.
+-- The goals of `crowded` that the check leaves open; Invariants.antt says how it is met. Assumes nothing.
 use native.Mathlib.Omega.{arith}
 use Rattle.span_narrow.proofs.SettleLaws.{crowding_found, uncrowded_none, uncrowded_more, crowding_none}
 use Rattle.span_narrow.proofs.crowded.Goals as goal

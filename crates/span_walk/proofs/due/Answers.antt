@@ -1,4 +1,4 @@
--- `due` meets its contract: the loop keeps that of the slots before k at most one is due (`Seen`), and hi − k falls. Assumes nothing.
+-- The goals of `due` that the check leaves open; Invariants.antt says how it is met. Assumes nothing.
 use mathlib.Core.Path.{sym, ◌∙◌}
 use native.Mathlib.Omega.{arith}
 use Rattle.span_walk.proofs.StepLaws.{seen_none, seen_not, seen_first, seen_second, seen_one, seen_all}

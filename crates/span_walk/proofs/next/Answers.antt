@@ -1,4 +1,4 @@
--- `next` meets its contract: the loop keeps that nothing is tried from `from` up to k (`Skipped`), and hi − k falls. Assumes nothing.
+-- The goals of `next` that the check leaves open; Invariants.antt says how it is met. Assumes nothing.
 use mathlib.Core.Path.{sym, ◌∙◌}
 use native.Mathlib.Omega.{arith}
 use Rattle.span_walk.proofs.StepLaws.{skipped_none, skipped_more, skipped_found, skipped_all}

@@ -1,4 +1,4 @@
--- `are_letters` meets its contract: whether the bytes so far are letters (`Seen`). Assumes nothing.
+-- The goals of `are_letters` that the check leaves open; Invariants.antt says how it is met. Assumes nothing.
 use Rattle.text_fasta.proofs.LeadingLaws.{seen_none, seen_turn, seen_all}
 use Rattle.text_fasta.proofs.are_letters.Goals as goal
 

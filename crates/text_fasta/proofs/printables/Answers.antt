@@ -1,4 +1,4 @@
--- `printables` meets its contract: the bytes so far are printable (`Led`). Assumes nothing.
+-- The goals of `printables` that the check leaves open; Invariants.antt says how it is met. Assumes nothing.
 use mathlib.Core.Path.{sym, ◌∙◌}
 use Rattle.text_fasta.proofs.LeadingLaws.{led_none, led_turn, led_stop, led_all}
 use Rattle.text_fasta.proofs.printables.Goals as goal

@@ -1,5 +1,4 @@
--- `card_block::check::sum_up` meets its contract. The invariant: the sums are the plain sums of the bytes so far, and these are few enough for
--- `plain_most`. Assumes nothing.
+-- The goals of `card_block::check::sum_up` that the check leaves open; Invariants.antt says how it is met. Assumes nothing.
 use borrow.Author.Rules.{rules}
 use native.Mathlib.Omega.{arith}
 use mathlib.Core.Path.{refl, ap, ◌∙◌}

@@ -1,4 +1,4 @@
--- `card_reader::listing::fill` meets its contract. The invariant: each list is filled with the entries that were read so far. Assumes nothing.
+-- The goals of `card_reader::listing::fill` that the check leaves open; Invariants.antt says how it is met. Assumes nothing.
 use borrow.Author.Rules.{rules}
 use mathlib.Core.Path.{ap}
 use native.Mathlib.Omega.{arith}

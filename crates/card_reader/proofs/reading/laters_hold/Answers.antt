@@ -1,5 +1,4 @@
--- `card_reader::reading::laters_hold` meets its contract. The invariant: the tests of the blocks that are left answer as those of all later blocks
--- do. Assumes nothing.
+-- The goals of `card_reader::reading::laters_hold` that the check leaves open; Invariants.antt says how it is met. Assumes nothing.
 use borrow.Author.Rules.{rules}
 use mathlib.Core.Path.{◌≡◌, sym, ◌∙◌}
 use Prim.Native.Nat.{◌+◌, ◌-◌}

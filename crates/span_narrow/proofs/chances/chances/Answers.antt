@@ -1,5 +1,4 @@
--- `chances` meets its contract: the loop tries one entry more (`Trials`), and in the end has the chances (`trials_done`). What falls is how
--- many are left. Assumes nothing.
+-- The goals of `chances` that the check leaves open; Invariants.antt says how it is met. Assumes nothing.
 use mathlib.Core.Path.{◌≡◌, refl, sym, ap, ◌∙◌}
 use Prim.Native.Nat.{◌+◌, ◌<◌}
 use native.Mathlib.Omega.{arith}

@@ -1,4 +1,4 @@
--- `dues` meets its contract: the loop keeps how many are due from k on, and k rises. Assumes nothing.
+-- The goals of `dues` that the check leaves open; Invariants.antt says how it is met. Assumes nothing.
 use mathlib.Core.Path.{refl, sym, ◌∙◌}
 use Prim.Native.Nat.{◌<◌}
 use native.Mathlib.Omega.{arith}

@@ -1,4 +1,4 @@
--- `choose` meets its contract: the loop keeps who is chosen of the entries from k on (`LookedFrom`), and k falls. Assumes nothing.
+-- The goals of `choose` that the check leaves open; Invariants.antt says how it is met. Assumes nothing.
 use mathlib.Core.Path.{sym, ◌∙◌}
 use Prim.Native.Nat.{◌-◌, ◌<◌}
 use native.Mathlib.Omega.{arith}

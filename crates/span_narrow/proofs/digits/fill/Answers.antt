@@ -1,4 +1,4 @@
--- `fill` meets its contract: one number more stands in each turn (`filling_turn`). What falls is how many are left. Assumes nothing.
+-- The goals of `fill` that the check leaves open; Invariants.antt says how it is met. Assumes nothing.
 use mathlib.Core.Path.{refl}
 use native.Mathlib.Omega.{arith}
 use Rattle.base_lists.proofs.FillingLaws.{filling_none, filling_turn, filling_all}

@@ -1,4 +1,4 @@
--- `mark_list` meets its contract: one entry more is marked in each turn (`Marking`). What falls is how many are left. Assumes nothing.
+-- The goals of `mark_list` that the check leaves open; Invariants.antt says how it is met. Assumes nothing.
 use Prim.Native.Nat.{◌<◌}
 use native.Mathlib.Omega.{arith}
 use lib.ListN.{length, get_or}

@@ -1,4 +1,4 @@
--- `spread` meets its contract: the loop keeps that the entries from k on are marked (`MarkingBy`), and k falls. Assumes nothing.
+-- The goals of `spread` that the check leaves open; Invariants.antt says how it is met. Assumes nothing.
 use mathlib.Core.Path.{refl}
 use Prim.Native.Nat.{◌-◌, ◌<◌}
 use native.Mathlib.Omega.{arith}

@@ -1,4 +1,4 @@
--- `keep` meets its contract: it begins with the first state alone, and one place more is seen in each turn. Assumes nothing.
+-- The goals of `keep` that the check leaves open; Invariants.antt says how it is met. Assumes nothing.
 use mathlib.Core.Path.{refl}
 use native.Mathlib.Omega.{arith}
 use Rattle.card_entries.proofs.HoldLaws.{some_entry}

@@ -1,4 +1,4 @@
--- `keep_followers` meets its contract: one entry more is tried in each turn (`Visiting`). What falls is how many are left. Assumes nothing.
+-- The goals of `keep_followers` that the check leaves open; Invariants.antt says how it is met. Assumes nothing.
 use mathlib.Core.Path.{◌≡◌, refl, sym, ap, ◌∙◌}
 use Prim.Native.Nat.{◌+◌, ◌<◌}
 use native.Mathlib.Omega.{arith}

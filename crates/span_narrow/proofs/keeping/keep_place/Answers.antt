@@ -1,4 +1,4 @@
--- `keep_place` meets its contract: one state more is seen in each turn (`Opening`), and then its entries are placed. Assumes nothing.
+-- The goals of `keep_place` that the check leaves open; Invariants.antt says how it is met. Assumes nothing.
 use mathlib.Core.Path.{◌≡◌, refl}
 use Prim.Native.Nat.{◌+◌, ◌-◌, ◌≤◌, ◌<◌}
 use native.Mathlib.Omega.{arith}

@@ -1,4 +1,4 @@
--- `read_off` meets its contract: one word more is read in each turn (`SoFarRead`). What falls is how many places are left. Assumes nothing.
+-- The goals of `read_off` that the check leaves open; Invariants.antt says how it is met. Assumes nothing.
 use Prim.Native.Nat.{◌<◌}
 use native.Mathlib.Omega.{arith}
 use lib.ListN.{length}

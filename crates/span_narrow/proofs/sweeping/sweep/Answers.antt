@@ -1,4 +1,4 @@
--- `sweep` meets its contract: one place more is swept in each turn. Assumes nothing.
+-- The goals of `sweep` that the check leaves open; Invariants.antt says how it is met. Assumes nothing.
 use mathlib.Core.Path.{refl}
 use native.Mathlib.Omega.{arith}
 use Rattle.span_narrow.proofs.SideLaws.{sides_marked}

@@ -1,5 +1,4 @@
--- `sweep_place` meets its contract: from the last set of its entries to the first one state more is swept in each turn (`Sweeping`), and then
--- its entries are left. Assumes nothing.
+-- The goals of `sweep_place` that the check leaves open; Invariants.antt says how it is met. Assumes nothing.
 use mathlib.Core.Path.{◌≡◌, refl, ap}
 use Prim.Native.Nat.{◌+◌, ◌-◌, ◌^◌, ◌≤◌}
 use native.Mathlib.Omega.{arith}

@@ -1,4 +1,4 @@
--- `test_records::hashes::of_words` meets its contract. The invariant: the hash so far and what is left give the hash of all. Assumes nothing.
+-- The goals of `test_records::hashes::of_words` that the check leaves open; Invariants.antt says how it is met. Assumes nothing.
 use Rattle.test_records.proofs.HashLaws.{so_far_none, so_far_more, so_far_all}
 use Rattle.test_records.proofs.hashes.of_words.Goals as goal
 

@@ -1,4 +1,4 @@
--- `text_length` meets its contract: the lines so far are counted (`Counted`). What falls is how many are left. Assumes nothing.
+-- The goals of `text_length` that the check leaves open; Invariants.antt says how it is met. Assumes nothing.
 use mathlib.Core.Path.{◌≡◌, sym, ap, ◌∙◌}
 use Prim.Native.Nat.{ℕ, ◌≤◌}
 use native.Mathlib.Omega.{arith}

@@ -1,4 +1,4 @@
--- `put_lines` meets its contract: the lines so far stand at the start of the output (`Lines`). What falls is how many are left. Assumes nothing.
+-- The goals of `put_lines` that the check leaves open; Invariants.antt says how it is met. Assumes nothing.
 use mathlib.Core.Path.{sym, ap, ◌∙◌}
 use lib.ListN.{length}
 use Rattle.card_entries.specs.declared.Slot.{Slot}

@@ -1,5 +1,4 @@
--- `put_word` meets its contract: one letter more stands in each turn, before the others (`letters_turn`). What falls is how many are left.
--- Assumes nothing.
+-- The goals of `put_word` that the check leaves open; Invariants.antt says how it is met. Assumes nothing.
 use native.Mathlib.Omega.{arith}
 use Rattle.base_text.proofs.PuttingLaws.{length_put}
 use Rattle.text_export.proofs.PutLaws.{letters_none, letters_turn, letters_all}

@@ -1,4 +1,4 @@
--- `are_line_letters` meets its contract: whether the bytes so far are letters (`Seen`). Assumes nothing.
+-- The goals of `are_line_letters` that the check leaves open; Invariants.antt says how it is met. Assumes nothing.
 use native.Mathlib.Omega.{arith}
 use Rattle.text_fasta.proofs.LeadingLaws.{seen_none, seen_part, seen_rest}
 use Rattle.text_fasta.proofs.reading.are_line_letters.Goals as goal

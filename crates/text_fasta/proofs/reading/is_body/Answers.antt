@@ -1,4 +1,4 @@
--- `is_body` meets its contract: the lines so far are as they should be (`Looked`). Assumes nothing.
+-- The goals of `is_body` that the check leaves open; Invariants.antt says how it is met. Assumes nothing.
 use mathlib.Core.Path.{sym, ◌∙◌}
 use native.Mathlib.Omega.{arith}
 use Rattle.text_fasta.proofs.EndLaws.{end_within, end_after}

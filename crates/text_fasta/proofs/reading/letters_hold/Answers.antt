@@ -1,4 +1,4 @@
--- `letters_hold` meets its contract: the letters so far are counted (`Counting`). Assumes nothing.
+-- The goals of `letters_hold` that the check leaves open; Invariants.antt says how it is met. Assumes nothing.
 use mathlib.Core.Path.{sym, ◌∙◌}
 use mathlib.Core.Logic.{inr}
 use native.Mathlib.Omega.{arith}

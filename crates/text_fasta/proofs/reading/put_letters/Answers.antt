@@ -1,4 +1,4 @@
--- `put_letters` meets its contract: the letters of the lines so far are put (`Parting`). Assumes nothing.
+-- The goals of `put_letters` that the check leaves open; Invariants.antt says how it is met. Assumes nothing.
 use native.Mathlib.Omega.{arith}
 use Rattle.text_fasta.proofs.LoopLaws.{parting_none, parting_length, parting_room, parting_turn, parting_all}
 use Rattle.text_fasta.proofs.EndLaws.{end_within, end_after}

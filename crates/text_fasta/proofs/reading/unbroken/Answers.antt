@@ -1,4 +1,4 @@
--- `unbroken` meets its contract: the bytes so far are no newlines (`Led`). Assumes nothing.
+-- The goals of `unbroken` that the check leaves open; Invariants.antt says how it is met. Assumes nothing.
 use Rattle.text_fasta.proofs.LeadingLaws.{led_none, led_turn, led_stop, led_all}
 use Rattle.text_fasta.proofs.BodyLaws.{is_break, no_break_lem}
 use Rattle.text_fasta.proofs.reading.unbroken.Goals as goal

@@ -1,4 +1,4 @@
--- `letters_before` meets its contract: the bytes so far are letters (`Led`). Assumes nothing.
+-- The goals of `letters_before` that the check leaves open; Invariants.antt says how it is met. Assumes nothing.
 use mathlib.Core.Path.{sym, ◌∙◌}
 use Rattle.text_fasta.proofs.LeadingLaws.{led_none, led_turn, led_stop, led_all}
 use Rattle.text_fasta.proofs.writing.letters_before.Goals as goal

@@ -1,4 +1,4 @@
--- `put_lines` meets its contract: the letters so far are put in lines (`Lining`). Assumes nothing.
+-- The goals of `put_lines` that the check leaves open; Invariants.antt says how it is met. Assumes nothing.
 use native.Mathlib.Omega.{arith}
 use Rattle.text_fasta.proofs.LoopLaws.{lining_none, lining_length, lining_room, lining_turn, lining_all}
 use Rattle.text_fasta.proofs.EndLaws.{end_within, end_after, end_more}

@@ -1,4 +1,4 @@
--- `close` meets its contract. The invariant is `Closed`. What falls is how many are left. Assumes nothing.
+-- The goals of `close` that the check leaves open; Invariants.antt says how it is met. Assumes nothing.
 use native.Mathlib.Omega.{arith}
 use Rattle.text_probes.proofs.CloseLaws.{closed_none, so_far_length, closed_turn, closed_all}
 use Rattle.text_probes.proofs.keeping.close.Goals as goal

@@ -1,4 +1,4 @@
--- `read_word` meets its contract. The invariant is `Spelling`. What falls is how many bytes are left. Assumes nothing.
+-- The goals of `read_word` that the check leaves open; Invariants.antt says how it is met. Assumes nothing.
 use mathlib.Core.Path.{sym, ◌∙◌}
 use native.Mathlib.Omega.{arith}
 use lib.ListN.{get_or}

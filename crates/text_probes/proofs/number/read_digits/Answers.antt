@@ -1,4 +1,4 @@
--- `read_digits` meets its contract. The invariant: the digits that are left read as all do. What falls is how many are left. Assumes nothing.
+-- The goals of `read_digits` that the check leaves open; Invariants.antt says how it is met. Assumes nothing.
 use mathlib.Core.Path.{refl, ◌∙◌, sym}
 use native.Mathlib.Omega.{arith}
 use lib.ListN.{get_or}

@@ -1,4 +1,4 @@
--- `scan` meets its contract. The invariant is `Scanning`. What falls is how many bytes are left. Assumes nothing.
+-- The goals of `scan` that the check leaves open; Invariants.antt says how it is met. Assumes nothing.
 use mathlib.Core.Path.{refl, sym, ap, ◌∙◌}
 use native.Mathlib.Omega.{arith}
 use Rattle.text_probes.specs.Says.{says_lined, line_end, says_scanned}
