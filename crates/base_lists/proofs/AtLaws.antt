@@ -33,4 +33,4 @@ module _ {A : Type 0} where
   unfolding row
   at_row f k (suc n) here = (omega arith, ap f (omega arith))
   at_row f k (suc n) (there {i = i} a) = let h = at_row f (suc k) n a in (omega (arith, h.0), h.1 ∙ ap f (omega arith))
-  at_row f k zero {i = i} x3 = elim x3 [ ]
+  at_row f k zero {i = i} h = elim h [ ]

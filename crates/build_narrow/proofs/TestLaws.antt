@@ -60,7 +60,7 @@ widths_narrow k es e = record { each = λ s i. go k es e i }
     go : (k : ℕ) (es : List Slot) → first (width_tests k es) sound ≡ given sound → {s : Slot} → members.In s es → is_narrow s ≡ true
     go k (s ∷ es) e members.first = (first_passed (is_narrow s) Wider k (width_tests (suc k) es) sound sound e).0
     go k (s ∷ es) e (members.later i) = go (suc k) es (first_passed (is_narrow s) Wider k (width_tests (suc k) es) sound sound e).1 i
-    go k [] e {s = s} x'' = elim x'' [ ]
+    go k [] e {s = s} h = elim h [ ]
 
 -- and where each span is narrow they hold
 pub narrow_widths : (f : ℕ → Slot) (n : ℕ) → Narrow (row f 0 n) → first (width_tests 0 (row f 0 n)) sound ≡ given sound

@@ -35,7 +35,7 @@ at_allowed : {l i j : ℕ} {p : Option ℕ} {e : Entry} {es : List Entry} → St
 at_allowed {i} {e = e} (stands a f more) here = let same : i + 0 ≡ i = omega arith in rw same a
 at_allowed {i} {e = e} (stands a f more) (there {i = k} h) =
     let same : i + suc k ≡ suc i + k = omega arith in rw same (at_allowed more h)
-at_allowed {l = l} {j = j} {e = e} (nobody {i = i} {p = p}) x5 = elim x5 [ ]
+at_allowed {l = l} {j = j} {e = e} (nobody {i = i} {p = p}) h = elim h [ ]
 
 pub build_matches : {l : ℕ} {es : List Entry} {s : List ℕ} → 0 < l → 0 < length es → Build l es s → Matches l es s
 build_matches {l} {es} {s} pos entry b = record {

@@ -49,7 +49,7 @@ module _ {kind l budget : ℕ} {es : List Slot} where
 
   pub means_unsettled : {n : ℕ} → Means kind l es budget (unsettled n) → (kind ≡ span) × (n ≡ budget) × (budget < placements l es)
   means_unsettled (on_spans e (spans.goes_on a b)) = (e, a, b)
-  means_unsettled {n = n} (on_pairs _ x'') = elim x'' [ ]
+  means_unsettled {n = n} (on_pairs _ h) = elim h [ ]
 
 -- the placements of what settles a card
 pub means_placements : {card : List ℕ} {budget : ℕ} {v : Verdict} {n : ℕ}

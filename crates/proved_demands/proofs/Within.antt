@@ -86,7 +86,7 @@ module _ (w i : ℕ) where
   all_stand_lem : (es : List Entry) → all_stand es ≡ true → (e : Entry) → In e es → e.word ≡ w → allows e.places i ≡ true
   all_stand_lem (d ∷ es) h e lists.first q = rw (eq-eqb d.word w q) at (both (cond (eqb d.word w) (allows d.places i) true) (all_stand es) h).0
   all_stand_lem (d ∷ es) h e (lists.later m) q = all_stand_lem es (both (cond (eqb d.word w) (allows d.places i) true) (all_stand es) h).1 e m q
-  all_stand_lem [] h e x3 q = elim x3 [ ]
+  all_stand_lem [] h e a q = elim a [ ]
 
   less : {es es' : List Entry} (e : Entry) → In e es → e.word ≡ w → allows e.places i ≡ false → all_stand es' ≡ true
       → Paired Widens es' es → ⊥
@@ -222,7 +222,7 @@ module _ {A : Type 0} (P : A → Type 0) where
   each : (xs : List A) → Every xs → (x : A) → In x xs → P x
   each (y ∷ xs) all x lists.first = all.0
   each (y ∷ xs) all x (lists.later m) = each xs all.1 x m
-  each [] all x x4 = elim x4 [ ]
+  each [] all x h = elim h [ ]
 
 pub each_within : (x : Table × Table) → In x widenings → Within x.0 x.1
 each_within =

@@ -77,7 +77,7 @@ module _ {A B : Type 0} where
 pub numbers_in : (i n j : ℕ) → In j (numbers i n) → (i ≤ j) × (j < i + n)
 numbers_in i (suc n) j first = (omega arith, omega arith)
 numbers_in i (suc n) j (later h) = let k = numbers_in (suc i) n j h in (omega arith, omega arith)
-numbers_in i zero j x' = elim x' [ ]
+numbers_in i zero j h = elim h [ ]
 
 pub in_numbers : (i n j : ℕ) → i ≤ j → j < i + n → In j (numbers i n)
 in_numbers i zero j h g = absurd (omega arith)

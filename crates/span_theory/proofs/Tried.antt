@@ -28,7 +28,7 @@ pub record Candidate (l i : ℕ) (p : Option ℕ) (c : Choice Slot) : Type 0 whe
 past_in : (i : ℕ) (es : List Slot) → T (last_past i es) → (d : Slot) → In d es → i < d.two
 past_in i (e ∷ es) t d first = ltb→lt _ _ (and_both (ltb i e.two) (last_past i es) t).0
 past_in i (e ∷ es) t d (later h) = past_in i es (and_both (ltb i e.two) (last_past i es) t).1 d h
-past_in i [] t d x'' = elim x'' [ ]
+past_in i [] t d h = elim h [ ]
 
 in_past : (i : ℕ) (es : List Slot) → ((d : Slot) → In d es → i < d.two) → T (last_past i es)
 in_past i [] h = tt
@@ -178,7 +178,7 @@ module _ {A : Type 0} (word last : A → ℕ) where
       let u = by_word_serves cs h in
       let v = insert_serves_old c (by_word word last cs) u.1 in
       (v.0, v.1, record { same = v.2.same ∙ u.2.same; ends = omega (arith, v.2.ends, u.2.ends) })
-  by_word_serves [] x'' = elim x'' [ ]
+  by_word_serves [] h = elim h [ ]
 
 -- ---- what is tried
 
