@@ -62,7 +62,7 @@ enum {
  * thread library keeps there and for the function that the thread begins in. Give a thread 8,192 bytes more than the number here, and the bytes of
  * the program's thread-local variables, and no less than PTHREAD_STACK_MIN. */
 enum {
-    BELFRYMIST_STACK = 131072,          /* belfrymist_build */
+    BELFRYMIST_STACK = 122880,          /* belfrymist_build */
     BELFRYMIST_STACK_SETTLING = 90112,  /* belfrymist_settle and belfrymist_settle_lists */
     BELFRYMIST_STACK_COUNTING = 40960,  /* belfrymist_count and belfrymist_count_lists */
     BELFRYMIST_STACK_IMPORTING = 5120,  /* belfrymist_import */

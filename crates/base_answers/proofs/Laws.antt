@@ -1,15 +1,15 @@
 -- The laws of `first` and `in_turn`, by which every crate above meets an order of tests. No contract cites this file. Assumes nothing.
 use mathlib.Core.Path.{◌≡◌, refl, sym, ap, ◌∙◌}
-use mathlib.Core.Bool.{Bool, true, false}
+use mathlib.Core.Bool.{Bool, true, false, cond}
 use mathlib.Core.List.{List, [], ◌∷◌, ◌++◌}
 use Prim.Native.Nat.{ℕ, zero, suc, ◌+◌, ◌-◌, ◌≤◌, ◌<◌}
 use native.Mathlib.Numerals.{add-one}
 use native.Mathlib.Omega.{arith}
 use Rattle.base_lists.proofs.RowLaws.{turns_none, turns_first}
 use Rattle.base_answers.specs.declared.Refusal.{Refusal}
-use Rattle.base_answers.specs.declared.Held.{Held}
-use Rattle.base_answers.specs.declared.Held.TheVariants.{Holds, Refused}
-use Rattle.base_answers.specs.Answer.{Answer, given, refused, Sound, sound, Test, test, first, says_held}
+use Rattle.std.specs.Prelude.{Result, Ok, Err, eqb}
+use Rattle.base_answers.specs.declared.Refusal.TheVariants as is
+use Rattle.base_answers.specs.Answer.{Answer, given, refused, Sound, sound, Test, test, first, number_of, place_of, says_as, says, says_held}
 use Rattle.base_lists.specs.Row.{in_turn}
 
 -- ---- one test
@@ -29,6 +29,9 @@ module _ {A : Type 0} (ok : Bool) (n p : ℕ) (ts : List Test) (a : A) where
 pub first_last : {A : Type 0} (ok : Bool) (n p : ℕ) (a : A) → ok ≡ true → first (test ok n p ∷ []) a ≡ given a
 unfolding first
 first_last ok n p a h = rw h
+
+-- a test that is passed, that fails, or that is the last
+pub ruleset first_tests = (first_pass, first_fail, first_last)
 
 -- what is given passed the first test
 pub first_passed : {A : Type 0} (ok : Bool) (n p : ℕ) (ts : List Test) (a b : A)
@@ -142,22 +145,75 @@ refusal_same {A} {B} e = ap back e
 pub says_one : {E T : Type 0} (says : E → T) (back : T → E) → ((r : E) → back (says r) ≡ r) → (r s : E) → says r ≡ says s → r ≡ s
 says_one says back had r s e = sym (had r) ∙ ap back e ∙ had s
 
-held_back : Answer Sound → Held
-held_back (given sound) = Holds
-held_back (refused n p) = Refused (record { number = n; place = p })
+-- the refusal by a number, of these refusals, at a place
+refusal_of : List (ℕ → Refusal) → ℕ → ℕ → Refusal
+refusal_of [] n p = is.Short
+refusal_of (r ∷ rs) n p = cond (eqb (number_of (r p)) n) (r p) (refusal_of rs n p)
 
-held_back_lem : (h : Held) → held_back (says_held h) ≡ h
-unfolding held_back
-held_back_lem Holds = refl
-held_back_lem (Refused r) = refl
+refusals : List (ℕ → Refusal)
+refusals =
+    (λ _. is.Short) ∷ is.Check ∷ is.Index ∷ (λ _. is.Form) ∷ (λ _. is.Kind) ∷ (λ _. is.WordLength) ∷ (λ _. is.Count) ∷ is.Spare ∷
+    (λ _. is.Size) ∷ is.Word ∷ is.Places ∷ (λ _. is.Room) ∷ (λ _. is.Lists) ∷ (λ _. is.Absent) ∷ (λ _. is.Name) ∷ is.Letter ∷ (λ _. is.Line) ∷
+    is.Text ∷ is.Mixed ∷ is.Uneven ∷ is.Zero ∷ is.Wider ∷ []
 
-pub held_one : (h k : Held) → says_held h ≡ says_held k → h ≡ k
-held_one = says_one says_held held_back held_back_lem
+refusal_back : (r : Refusal) → refusal_of refusals (number_of r) (place_of r) ≡ r
+unfolding refusals refusal_of
+refusal_back is.Short = refl
+refusal_back (is.Check p) = refl
+refusal_back (is.Index p) = refl
+refusal_back is.Form = refl
+refusal_back is.Kind = refl
+refusal_back is.WordLength = refl
+refusal_back is.Count = refl
+refusal_back (is.Spare p) = refl
+refusal_back is.Size = refl
+refusal_back (is.Word p) = refl
+refusal_back (is.Places p) = refl
+refusal_back is.Room = refl
+refusal_back is.Lists = refl
+refusal_back is.Absent = refl
+refusal_back is.Name = refl
+refusal_back (is.Letter p) = refl
+refusal_back is.Line = refl
+refusal_back (is.Text p) = refl
+refusal_back (is.Mixed p) = refl
+refusal_back (is.Uneven p) = refl
+refusal_back (is.Zero p) = refl
+refusal_back (is.Wider p) = refl
 
--- what an answer of `Held` says of the tests that it speaks for
-module _ {t : Answer Sound} {h : Held} (e : says_held h ≡ t) where
-  pub told_holds : h ≡ Holds → t ≡ given sound
-  told_holds q = sym e ∙ ap says_held q
+-- what is said can be had back where what is given can
+module _ {A B : Type 0} (view : A → B) (back : B → A) (had : (a : A) → back (view a) ≡ a) where
+  result_back : Answer B → Result A Refusal
+  result_back (given b) = Ok (back b)
+  result_back (refused n p) = Err (refusal_of refusals n p)
 
-  pub told_refused : {r : Refusal} → h ≡ Refused r → t ≡ refused r.number r.place
-  told_refused q = sym e ∙ ap says_held q
+  result_back_lem : (r : Result A Refusal) → result_back (says_as view r) ≡ r
+  unfolding result_back
+  result_back_lem (Ok a) = ap Ok (had a)
+  result_back_lem (Err r) = ap Err (refusal_back r)
+
+  pub says_as_same : (r s : Result A Refusal) → says_as view r ≡ says_as view s → r ≡ s
+  says_as_same = says_one (says_as view) result_back result_back_lem
+
+-- two results that say the same are one
+pub says_same : {A : Type 0} (r s : Result A Refusal) → says r ≡ says s → r ≡ s
+says_same = says_as_same (λ a. a) (λ a. a) (λ _. refl)
+
+pub held_one : (h k : Result (Unit {0}) Refusal) → says_held h ≡ says_held k → h ≡ k
+held_one = says_as_same (λ _. sound) (λ _. tt) (λ _. refl)
+
+-- what a result says of the answer that it speaks for
+module _ {A B : Type 0} (view : A → B) {t : Answer B} {h : Result A Refusal} (e : says_as view h ≡ t) where
+  pub said_given : {a : A} → h ≡ Ok a → t ≡ given (view a)
+  said_given q = sym e ∙ ap (says_as view) q
+
+  pub said_refused : {r : Refusal} → h ≡ Err r → t ≡ refused (number_of r) (place_of r)
+  said_refused q = sym e ∙ ap (says_as view) q
+
+-- and of the tests, where nothing is given but that they hold
+module _ {t : Answer Sound} {h : Result (Unit {0}) Refusal} (e : says_held h ≡ t) where
+  pub told_holds : {u : Unit {0}} → h ≡ Ok u → t ≡ given sound
+  told_holds = said_given (λ _. sound) e
+
+  pub told_refused : {r : Refusal} → h ≡ Err r → t ≡ refused (number_of r) (place_of r)
+  told_refused = said_refused (λ _. sound) e

@@ -4,8 +4,8 @@ use mathlib.Core.Path.{◌≡◌, refl, sym, ap, ◌∙◌}
 use contract.Lifetimes.{Lfts}
 use denote.Triple.Clauses.{AtExit}
 use borrow.Fn.Kinds.{Dens, res_t, ended_of}
-use Rattle.base_letters.specs.declared.Code.{Code}
-use Rattle.base_letters.specs.declared.Code.TheVariants.{Is, NoLetter}
+use Prim.Native.Nat.{ℕ}
+use Rattle.std.specs.Prelude.{Option, Some, None}
 use Rattle.base_letters.specs.Letters.{Reading, code, no_letter, says_code}
 use Rattle.base_letters.proofs.letter_of.Kinds as letter_of
 use Rattle.base_letters.proofs.letter_of.Reads as letter_of_reads
@@ -14,15 +14,15 @@ use Rattle.base_letters.proofs.code_of.Reads as code_of_reads
 use Rattle.base_letters.proofs.is_letter.Kinds as is_letter
 use Rattle.base_letters.proofs.is_letter.Reads as is_letter_reads
 
--- the enum, had back from what it says
-code_back : Reading → Code
-code_back (code c) = Is c
-code_back no_letter = NoLetter
+-- the option, had back from what it says
+code_back : Reading → Option ℕ
+code_back (code c) = Some c
+code_back no_letter = None
 
-code_back_lem : (r : Code) → code_back (says_code r) ≡ r
+code_back_lem : (r : Option ℕ) → code_back (says_code r) ≡ r
 unfolding code_back
-code_back_lem (Is c) = refl
-code_back_lem NoLetter = refl
+code_back_lem (Some c) = refl
+code_back_lem None = refl
 
 module _ (κs : Lfts 0) where
   -- the letter

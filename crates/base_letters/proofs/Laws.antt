@@ -1,38 +1,30 @@
--- The laws of the table, searched from a code on. No contract cites this file. Assumes nothing.
+-- The laws of the table. No contract cites this file. Assumes nothing.
 use mathlib.Core.Path.{◌≡◌, refl, sym, ◌∙◌}
-use mathlib.Core.Bool.{Bool, true, false, ◌||◌, cond}
-use Prim.Native.Nat.{ℕ, ◌+◌, ◌≤◌, ◌<◌}
-use native.Mathlib.Numerals.{add-one}
-use lib.ListN.{get_or, drop, drop_of_length-le}
-use lib.Seq.{drop-cons}
-use lib.Dec.{eqb}
+use mathlib.Core.Bool.{Bool, true, false, ◌||◌, cond, not}
+use mathlib.Core.List.{[], ◌∷◌}
+use Prim.Native.Nat.{ℕ, ◌+◌}
+use Rattle.std.specs.Prelude.{Some, None}
+use Rattle.std.specs.List.{position}
+use lib.Dec.{eqb, ltb}
 use borrow.Author.Tests.{eqb-true, eqb-false, eq-eqb, ne_eqb}
-use Rattle.base_letters.specs.Letters.{codes, letters, letter_of, Reading, code, no_letter, searched, code_of, is_code, is_letter}
+use Rattle.base_letters.specs.Letters.{letters, code, no_letter, searched, code_of, is_code, is_letter, says_code}
 
--- reading a byte by the letters from the code c on
-unfoldable pub from : ℕ → ℕ → Reading
-from c b = searched c (drop c letters) b
+-- the search of the letters, by std's word
+pub position_code : (b : ℕ) → says_code (position (λ x. eqb x b) (65 ∷ 67 ∷ 71 ∷ 84 ∷ [])) ≡ code_of b
+unfolding code_of searched letters
+position_code b = go (eqb 65 b) (eqb 67 b) (eqb 71 b) (eqb 84 b)
+  where
+    passed : Bool → Bool → Bool → Bool → ℕ
+    passed t u v w = cond (not t) (1 + cond (not u) (1 + cond (not v) (1 + cond (not w) (1 + 0) 0) 0) 0) 0
 
--- from the first on, the search is of all of them
-pub from_start : (b : ℕ) → from 0 b ≡ code_of b
-unfolding from code_of
-from_start b = refl
-
-module _ (b c : ℕ) where
-  -- the letter of c is passed where it is another
-  pub from_other : c < codes → (letter_of c ≡ b → ⊥) → from (c + 1) b ≡ from c b
-  unfolding from searched letter_of letters
-  from_other h n = sym (rw (drop-cons letters c 0 h, ne_eqb (get_or letters c 0) b n, add-one))
-
-  -- it is found where it is the same
-  pub from_found : c < codes → letter_of c ≡ b → from c b ≡ code c
-  unfolding from searched letter_of letters
-  from_found h e = rw (drop-cons letters c 0 h, eq-eqb (get_or letters c 0) b e)
-
-  -- past the last letter there is none
-  pub from_end : codes ≤ c → from c b ≡ no_letter
-  unfolding from searched letters
-  from_end h = rw (drop_of_length-le letters h)
+    go : (t u v w : Bool)
+        → says_code (cond (ltb (passed t u v w) 4) (Some (passed t u v w)) None)
+        ≡ cond t (code 0) (cond u (code 1) (cond v (code 2) (cond w (code 3) no_letter)))
+    go true u v w = refl
+    go false true v w = refl
+    go false false true w = refl
+    go false false false true = refl
+    go false false false false = refl
 
 -- a byte is a letter where it is one of the table
 pub letter_compared : (b : ℕ) → (((eqb b 65 || eqb b 67) || eqb b 71) || eqb b 84) ≡ is_letter b

@@ -5,11 +5,9 @@
 --   code_of b             == the code that the byte b is the letter of, or that it is no letter
 --   is_code r             == whether the reading r is a code
 --   is_letter b           == whether the byte b is a letter
---   says_code r           == what the enum `Code` says
+--   says_code r           == what an option of a code says
 -- Assumes nothing.
-use Rattle.std.specs.Prelude.{ℕ, suc, Bool, true, false, cond, List, [], ◌∷◌, get_or, eqb}
-use Rattle.base_letters.specs.declared.Code.{Code}
-use Rattle.base_letters.specs.declared.Code.TheVariants.{Is, NoLetter}
+use Rattle.std.specs.Prelude.{ℕ, suc, Bool, true, false, cond, List, [], ◌∷◌, get_or, eqb, Option, Some, None}
 
 -- "Letters A, C, G, T have codes 0, 1, 2, 3"
 abbrev pub codes : ℕ
@@ -40,7 +38,6 @@ is_code (code c) = true
 abbrev pub is_letter : ℕ → Bool
 is_letter b = is_code (code_of b)
 
--- each case of the enum
-abbrev pub says_code : Code → Reading
-says_code (Is c) = code c
-says_code NoLetter = no_letter
+abbrev pub says_code : Option ℕ → Reading
+says_code (Some c) = code c
+says_code None = no_letter

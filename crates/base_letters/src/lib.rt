@@ -9,14 +9,8 @@ const CODES: usize = 4;
 // The letters in the order of their codes.
 const LETTERS: [u8; CODES] = [b'A', b'C', b'G', b'T'];
 
-// What reading a byte answers: the code that it is the letter of, or that it is no letter.
-#[derive(Clone, Copy)]
-pub enum Code {
-    Is(usize),
-    NoLetter,
-}
-
 // The letter of a code.
+#[tactic(auto, unfolding(crate::specs::Letters::letters, crate::specs::Letters::letter_of))]
 pub fn letter_of(code: usize) -> u8
     requires { code < codes }
     ensures { result ≡ letter_of code }
@@ -25,17 +19,10 @@ pub fn letter_of(code: usize) -> u8
 }
 
 // The code of a letter, for any byte: where it first stands in the table, or that it is no letter.
-pub fn code_of(byte: u8) -> Code
+pub fn code_of(byte: u8) -> Option<usize>
     ensures { says_code result ≡ code_of byte }
 {
-    let mut code = 0;
-    while code < CODES {
-        if LETTERS[code] == byte {
-            return Code::Is(code);
-        }
-        code += 1;
-    }
-    Code::NoLetter
+    LETTERS.iter().position(|letter| *letter == byte)
 }
 
 // Whether a byte is a letter, for any byte: no branch is taken, so that the compiler can look at many bytes at once.

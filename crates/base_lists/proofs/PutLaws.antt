@@ -1,10 +1,10 @@
 -- The laws of a part put into a list, and of a list that is written from front to back. Assumes nothing.
 use mathlib.Core.Path.{◌≡◌, sym, ap, ◌∙◌}
 use mathlib.Core.List.{List, [], ◌∷◌, ◌++◌, append_assoc, append-nil}
-use Prim.Native.Nat.{ℕ, suc, ◌+◌, ◌-◌, ◌≤◌, ◌<◌}
+use Prim.Native.Nat.{ℕ, suc, ◌+◌, ◌≤◌, ◌<◌}
 use native.Mathlib.Numerals.{add-one}
 use native.Mathlib.Omega.{arith}
-use lib.ListN.{length, take, drop, set, replicate, length-append, length-drop, length-replicate, replicate-append-replicate, take-append-drop}
+use lib.ListN.{length, take, drop, set, length-append, length-drop, take-append-drop}
 use lib.Seq.{set_split, drop-length, drop-drop, take_at, drop_at, length-take-le, append_snoc}
 use Rattle.base_lists.specs.Parts.{put_at}
 
@@ -76,43 +76,3 @@ module _ (l : List ℕ) (at : ℕ) (xs : List ℕ) {l' : List ℕ} {to : ℕ} (s
   put_next x h =
       let same : length l' ≡ length l = rw stands (put_length l xs at (omega arith)) in
       put_one l' to x (omega arith) ∙ put_on (x ∷ []) (omega arith)
-
--- ---- zeros put one after the other
-
--- zeros stand from `from` up to i, on the way to `to`
-pub record Cleared (before : List ℕ) (from to i : ℕ) (part : List ℕ) : Type 0 where
-  pub started : from ≤ i
-  pub inside : i ≤ to
-  pub room : to ≤ length before
-  pub stands : part ≡ put_at (replicate (i - from) 0) from before
-
-module _ (l : List ℕ) (from to : ℕ) where
-  pub clear_start : from ≤ to → to ≤ length l → Cleared l from to from l
-  clear_start h g =
-      let none : from - from ≡ 0 = omega arith in
-      record { started = omega arith; inside = h; room = g; stands = rw none (sym (put_none l from)) }
-
-  module _ {i : ℕ} {part : List ℕ} (so_far : Cleared l from to i part) where
-    pub clear_length : length part ≡ length l
-    clear_length =
-        let n : ℕ = i - from in
-        rw so_far.stands
-        (put_length l (replicate n 0) from (omega (arith, length-replicate {A = ℕ} n 0, so_far.started, so_far.inside, so_far.room)))
-
-    pub clear_turn : i < to → Cleared l from to (i + 1) (set part i 0)
-    clear_turn h =
-        let n : ℕ = i - from in
-        let next : i + 1 - from ≡ n + 1 = omega (arith, so_far.started) in
-        let more : ◌++◌ {A = ℕ} (replicate n 0) (0 ∷ []) ≡ replicate (i + 1 - from) 0 = rw next (replicate-append-replicate n 1 0) in
-        let put : set part i 0 ≡ put_at (replicate n 0 ++ (0 ∷ [])) from l =
-        put_next l from (replicate n 0) so_far.stands (omega (arith, length-replicate {A = ℕ} n 0, so_far.started)) 0
-        (omega (arith, so_far.room)) in
-        record {
-          started = omega (arith, so_far.started);
-          inside = omega arith;
-          room = so_far.room;
-          stands = put ∙ ap (λ (xs : List ℕ). put_at xs from l) more;
-        }
-
-    pub clear_end : to ≤ i → part ≡ put_at (replicate (to - from) 0) from l
-    clear_end h = let all : to ≡ i = omega (arith, so_far.inside) in rw all so_far.stands

@@ -3,29 +3,25 @@
 #![tactic(auto)]
 
 ghost use Rattle.std.specs.Prelude.{[], ◌∷◌, ◌++◌, ◌≡◌, ◌+◌, ◌≤◌, ◌<◌, length};
+ghost use Rattle.base_answers.specs.Answer.{number_of, place_of};
 ghost use Rattle.base_text.specs.Text.{ascii, digit, decimal, others, refusal_line};
 ghost use Rattle.base_text.specs.Putting.{most_digits, refusal_room, Put};
 
 use base_answers::Refusal;
 
-// The digit 0 in ASCII.
-const DIGIT_0: u8 = 48;
-
-// A text.
+// A text, byte by byte: `copy_from_slice` was tried, and calls `memmove`, where the header says that the library needs memcpy and memset at most.
 pub fn put_text(out: &mut [u8], at: usize, text: &[u8]) -> usize
     requires { at + length text.now ≤ length out.old }
     ensures { Put text.now at out.old result out.new }
 {
     let n = text.len();
-    let mut i = 0;
-    while i < n {
+    for i in 0..n {
         out[at + i] = text[i];
-        i += 1;
     }
     at + n
 }
 
-// A space and a text.
+// A space and a text. This, `put_number` and `put_last` are each two calls, of other functions: one that is given both would be no shorter.
 pub fn put_field(out: &mut [u8], at: usize, text: &[u8]) -> usize
     requires { at + 1 + length text.now ≤ length out.old }
     ensures { Put (ascii " " ++ text.now) at out.old result out.new }
@@ -39,7 +35,7 @@ fn put_digit(out: &mut [u8], at: usize, d: usize) -> usize
     requires { (d < 10) × (at < length out.old) }
     ensures { Put (digit d ∷ []) at out.old result out.new }
 {
-    out[at] = DIGIT_0 + (d as u8);
+    out[at] = b'0' + d as u8;
     at + 1
 }
 
@@ -105,8 +101,8 @@ pub fn put_two(out: &mut [u8], at: usize, x: usize, y: usize) -> usize
 // The one line of a refusal.
 pub fn put_refused(out: &mut [u8], r: Refusal) -> usize
     requires { refusal_room ≤ length out.old }
-    ensures { Put (refusal_line r.number r.place) 0 out.old result out.new }
+    ensures { Put (refusal_line (number_of r) (place_of r)) 0 out.old result out.new }
 {
     let number_at = put_text(out, 0, b"refused");
-    put_two(out, number_at, r.number, r.place)
+    put_two(out, number_at, r.number(), r.place())
 }

@@ -7,9 +7,10 @@ use native.Mathlib.Omega.{arith}
 use lib.ListN.{length, take}
 use lib.Dec.{leb}
 use borrow.Author.Tests.{le-leb, lt-leb, leb-true}
+use Rattle.std.specs.Prelude.{Result, Ok, Err}
 use Rattle.base_answers.specs.declared.Refusal.{Refusal}
 use Rattle.base_answers.specs.Numbers.{Room}
-use Rattle.base_answers.specs.Answer.{given, refused, first, sound}
+use Rattle.base_answers.specs.Answer.{Answer, given, refused, first, sound, number_of, place_of, says}
 use Rattle.base_lists.specs.Row.{row}
 use Rattle.base_answers.proofs.Laws.{first_holds, first_refused, first_both, first_passed, first_last, first_fail}
 use Rattle.base_answers.proofs.Only.{Only, none, also, only_append}
@@ -18,10 +19,8 @@ use Rattle.card_entries.specs.declared.Format.{Format}
 use Rattle.card_entries.specs.Slot.{slot_from, entries_in}
 use Rattle.card_entries.specs.Bounds.{most_entries}
 use Rattle.card_layout.specs.Layout.{told_by, slot_of, slots_on}
-use Rattle.card_reader.specs.declared.Admitted.{Admitted}
-use Rattle.card_reader.specs.declared.Admitted.TheVariants.{Card, Refused}
 use Rattle.card_reader.specs.Reading.{reading_order}
-use Rattle.card_reader.specs.Fetching.{admission, says_admitted}
+use Rattle.card_reader.specs.Fetching.{admission}
 use Rattle.card_reader.specs.Listing.{Listed}
 use Rattle.card_reader.proofs.RefusalNumbers.{order_only}
 use Rattle.card_reader.proofs.FetchingLaws.{admission_admits}
@@ -29,7 +28,6 @@ use Rattle.card_reader.proofs.ListingLaws.{listed_admitted, listed_words, listed
 use Rattle.card_entries.specs.Hold.{ListsHold}
 use Rattle.card_reader.proofs.AdmittedLaws.{its_words, its_ones, its_twos, length_its, its_told, slot_same, format_same, its_hold}
 use Rattle.build_card.specs.declared.BuildAnswer.{BuildAnswer}
-use Rattle.build_card.specs.declared.BuildAnswer.TheVariants as is
 use Rattle.build_card.specs.Building.{letters_in, build_tests, Means, tells, refuses, Builds}
 use Rattle.build_card.specs.From.{InRoom, short, fits}
 
@@ -78,10 +76,10 @@ module _ (limit : ℕ) (card : List ℕ) {f : Format} (admitted : admission limi
       ∙ same
       ∙ ap (λ (g : Format). row (slot_of card) 0 g.m) (its_told limit card admitted)
 
-module _ {card words ones twos words' ones' twos' : List ℕ} {q : Admitted} {f : Format}
-    (did : Listed most_entries card words ones twos q words' ones' twos') (e : q ≡ Card f) where
-  told : says_admitted q ≡ given f
-  told = ap says_admitted e
+module _ {card words ones twos words' ones' twos' : List ℕ} {q : Result Format Refusal} {f : Format}
+    (did : Listed most_entries card words ones twos (says q) words' ones' twos') (e : q ≡ Ok f) where
+  told : says q ≡ given f
+  told = ap says e
 
   admitted : admission most_entries card ≡ given f
   admitted = listed_admitted did told
@@ -98,7 +96,7 @@ module _ {card words ones twos words' ones' twos' : List ℕ} {q : Admitted} {f 
   listed_entries = rw (listed_words did told, listed_ones did told, listed_twos did told) (its_entries most_entries card admitted)
 
   -- what is answered from the lists is answered from the card
-  pub listed_builds : {budget : ℕ} {before after : List ℕ} {r : BuildAnswer}
+  pub listed_builds : {budget : ℕ} {before after : List ℕ} {r : Answer BuildAnswer}
       → InRoom f (entries_in (take f.m words') (take f.m ones') (take f.m twos')) budget before r after
       → Builds most_entries card budget before r after
   listed_builds {before} (short h a o) =
@@ -120,14 +118,14 @@ module _ {card words ones twos words' ones' twos' : List ℕ} {q : Admitted} {f 
       }
 
 -- a card that is not admitted is refused with the reader's refusal
-pub refused_builds : {card words ones twos words' ones' twos' : List ℕ} {q : Admitted} {n : Refusal} {budget : ℕ} {before : List ℕ}
-    → Listed most_entries card words ones twos q words' ones' twos' → q ≡ Refused n
+pub refused_builds : {card words ones twos words' ones' twos' : List ℕ} {q : Result Format Refusal} {n : Refusal} {budget : ℕ} {before : List ℕ}
+    → Listed most_entries card words ones twos (says q) words' ones' twos' → q ≡ Err n
     → most_entries ≤ length words → most_entries ≤ length ones → most_entries ≤ length twos
-    → Builds most_entries card budget before (is.Refused n) before
+    → Builds most_entries card budget before (refused (number_of n) (place_of n)) before
 refused_builds {card} {words} {ones} {twos} {words'} {ones'} {twos'} {n = n} {before = before} did e a b c =
-    let said : Listed most_entries card words ones twos (Refused n) words' ones' twos' = rw e at did in
+    let said : Listed most_entries card words ones twos (refused (number_of n) (place_of n)) words' ones' twos' = rw e at did in
     record {
-      said = refused n.number n.place;
+      said = refused (number_of n) (place_of n);
       says = refuses (reader_refuses most_entries card (length before) (listed_not_admitted said a b c));
       answer = refl;
       output = refl;

@@ -8,8 +8,10 @@ use contract.Lifetimes.{Lfts}
 use denote.Triple.Clauses.{AtExit}
 use borrow.Fn.Kinds.{Dens, res_t, ended_of}
 use lib.ListN.{length}
-use Rattle.base_answers.specs.Answer.{Answer, given}
-use Rattle.base_answers.proofs.Laws.{given_not_refused, refusal_same}
+use Rattle.std.specs.Prelude.{Result}
+use Rattle.base_answers.specs.declared.Refusal.{Refusal}
+use Rattle.base_answers.specs.Answer.{Answer, given, says}
+use Rattle.base_answers.proofs.Laws.{given_not_refused, refusal_same, says_same}
 use Rattle.card_entries.specs.declared.Slot.{Slot}
 use Rattle.build_sequence.specs.Verdict.{Outcome}
 use Rattle.span_theory.proofs.Meant as spans
@@ -49,10 +51,13 @@ told_one tell before p q e f out out' =
     let same = says_one p q in
     (e ∙ ap tell same ∙ sym f, out ∙ ap (λ (x : Answer Outcome). letters_after x before) same ∙ sym out')
 
-pub builds_one : {limit budget : ℕ} {card before after after' : List ℕ} {r r' : BuildAnswer} → Builds limit card budget before r after
-    → Builds limit card budget before r' after'
+pub builds_one : {limit budget : ℕ} {card before after after' : List ℕ} {r r' : Result BuildAnswer Refusal}
+    → Builds limit card budget before (says r) after
+    → Builds limit card budget before (says r') after'
     → (r ≡ r') × (after ≡ after')
-builds_one {before} p q = told_one answer_of before p.says q.says p.answer q.answer p.output q.output
+builds_one {before} {r = r} {r' = r'} p q =
+    let same = told_one answer_of before p.says q.says p.answer q.answer p.output q.output in
+    (says_same r r' same.0, same.1)
 
 pub build_one : (κs : Lfts 2) (a : Dens κs build.ps) (r r' : (res_t build.r κs).Denot) (e e' : AtExit (ended_of 2 build.ps build.r) κs)
     → build_reads.Post κs a r e

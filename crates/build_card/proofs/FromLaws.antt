@@ -10,6 +10,7 @@ use Rattle.base_answers.specs.Answer.{given}
 use Rattle.card_entries.specs.declared.Format.{Format}
 use Rattle.card_entries.specs.declared.Slot.{Slot}
 use Rattle.card_entries.specs.Fault.{pair, span}
+use Rattle.card_entries.proofs.HoldLaws.{hold_kind, lists_of_kind}
 use Rattle.base_letters.specs.Letters.{letter_of}
 use Rattle.build_sequence.specs.Build.{spell}
 use Rattle.build_sequence.specs.Verdict.{sole, several, no_build, Outcome, settled, unsettled}
@@ -45,12 +46,12 @@ module _ (l : ℕ) (ws : List ℕ) (can : Spells l ws) (out : List ℕ) (all : l
 
   module _ {r : MethodAnswer} {k : ℕ} {out' : List ℕ} where
     pub spelled_sole : r ≡ Sole k → out' ≡ map letter_of (spell l ws)
-        → (is.Sole (length out) k ≡ answer_of (given (says_method l ws r))) × (out' ≡ letters_after (given (says_method l ws r)) out)
-    spelled_sole e o = rw e (ap (λ (n : ℕ). is.Sole n k) (sym spelled_length), none_left o)
+        → (given (is.Sole (length out) k) ≡ answer_of (given (says_method l ws r))) × (out' ≡ letters_after (given (says_method l ws r)) out)
+    spelled_sole e o = rw e (ap (λ (n : ℕ). given (is.Sole n k)) (sym spelled_length), none_left o)
 
     pub spelled_several : r ≡ Several k → out' ≡ map letter_of (spell l ws)
-        → (is.Several (length out) k ≡ answer_of (given (says_method l ws r))) × (out' ≡ letters_after (given (says_method l ws r)) out)
-    spelled_several e o = rw e (ap (λ (n : ℕ). is.Several n k) (sym spelled_length), none_left o)
+        → (given (is.Several (length out) k) ≡ answer_of (given (says_method l ws r))) × (out' ≡ letters_after (given (says_method l ws r)) out)
+    spelled_several e o = rw e (ap (λ (n : ℕ). given (is.Several n k)) (sym spelled_length), none_left o)
 
   -- its sequence, where it has one, has so many letters
   pub says_lettered : (r : MethodAnswer) → Lettered (length out) (says_method l ws r)
@@ -60,11 +61,11 @@ module _ (l : ℕ) (ws : List ℕ) (can : Spells l ws) (out : List ℕ) (all : l
   says_lettered (Unsettled k) = tt
 
 module _ (l : ℕ) (ws out : List ℕ) {r : MethodAnswer} {k : ℕ} where
-  pub spelled_none : r ≡ None k → (is.None k ≡ answer_of (given (says_method l ws r))) × (out ≡ letters_after (given (says_method l ws r)) out)
+  pub spelled_none : r ≡ None k → (given (is.None k) ≡ answer_of (given (says_method l ws r))) × (out ≡ letters_after (given (says_method l ws r)) out)
   spelled_none e = rw e (refl, refl)
 
   pub spelled_unsettled : r ≡ Unsettled k
-      → (is.Unsettled k ≡ answer_of (given (says_method l ws r))) × (out ≡ letters_after (given (says_method l ws r)) out)
+      → (given (is.Unsettled k) ≡ answer_of (given (says_method l ws r))) × (out ≡ letters_after (given (says_method l ws r)) out)
   spelled_unsettled e = rw e (refl, refl)
 
 -- ---- the start of a longer output
@@ -87,3 +88,10 @@ module _ (n : ℕ) (before : List ℕ) (room : n ≤ length before) where
   start_whole (settled (several s) k) e = start_then s e
   start_whole (settled no_build k) e = take-append-drop n before
   start_whole (unsettled k) e = take-append-drop n before
+
+-- ---- what the check applies by itself
+
+-- to the method of the kind, and to what is spelled
+pub ruleset founds = (hold_kind, lists_of_kind, found_spans, found_pairs)
+
+pub ruleset spellings = (spelled_sole, spelled_several, spelled_none, spelled_unsettled)

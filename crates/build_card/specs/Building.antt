@@ -4,7 +4,7 @@
 --   build_tests limit card room      == the tests, in their order
 --   Means kind l es budget o        == the outcome o is true of the entries es of a card of this kind, over all builds
 --   Says limit card budget room a   == what is said of the card: an outcome that is true, or the refusal
---   answer_of a                      == that as the enum of the answer
+--   answer_of a                      == that with the enum of the verdicts
 --   letters_after a before           == the output afterwards, where it was `before`
 --   Builds limit card budget before r after
 --                                   == the answer r, and every byte of the output afterwards
@@ -22,7 +22,7 @@ use Rattle.build_sequence.specs.Verdict.{sole, several, no_build, Outcome, settl
 use Rattle.span_theory.specs.Settling as spans
 use Rattle.pair_theory.specs.Settling as pairs
 use Rattle.build_card.specs.declared.BuildAnswer.{BuildAnswer}
-use Rattle.build_card.specs.declared.BuildAnswer.TheVariants.{Sole, Several, None, Unsettled, Refused}
+use Rattle.build_card.specs.declared.BuildAnswer.TheVariants.{Sole, Several, None, Unsettled}
 
 -- "A build has m+l−1 letters"
 abbrev pub letters_in : Format → ℕ
@@ -45,12 +45,12 @@ pub data Says (limit : ℕ) (card : List ℕ) (budget room : ℕ) : Answer Outco
 
 -- "Build answers Sole, Several, None, Unsettled or Refused, each with its own numbers. Sole and Several give the length and the placements
 -- […] None gives the placements. Unsettled gives placements equal to the budget."
-abbrev pub answer_of : Answer Outcome → BuildAnswer
-answer_of (given (settled (sole s) n)) = Sole (length s) n
-answer_of (given (settled (several s) n)) = Several (length s) n
-answer_of (given (settled no_build n)) = None n
-answer_of (given (unsettled n)) = Unsettled n
-answer_of (refused n p) = Refused (record { number = n; place = p })
+abbrev pub answer_of : Answer Outcome → Answer BuildAnswer
+answer_of (given (settled (sole s) n)) = given (Sole (length s) n)
+answer_of (given (settled (several s) n)) = given (Several (length s) n)
+answer_of (given (settled no_build n)) = given (None n)
+answer_of (given (unsettled n)) = given (Unsettled n)
+answer_of (refused n p) = refused n p
 
 -- "the letters stand at the start of the output and later bytes are untouched"; "None, Unsettled and Refused touch no output byte"
 abbrev pub letters_after : Answer Outcome → List ℕ → List ℕ
@@ -60,7 +60,7 @@ letters_after (given (settled no_build n)) before = before
 letters_after (given (unsettled n)) before = before
 letters_after (refused n p) before = before
 
-pub record Builds (limit : ℕ) (card : List ℕ) (budget : ℕ) (before : List ℕ) (r : BuildAnswer) (after : List ℕ) : Type 0 where
+pub record Builds (limit : ℕ) (card : List ℕ) (budget : ℕ) (before : List ℕ) (r : Answer BuildAnswer) (after : List ℕ) : Type 0 where
   pub said : Answer Outcome
   pub says : Says limit card budget (length before) said
   pub answer : r ≡ answer_of said

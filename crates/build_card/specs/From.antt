@@ -5,7 +5,7 @@
 -- Assumes nothing.
 use Rattle.std.specs.Prelude.{◌≡◌, List, map, ℕ, ◌≤◌, ◌<◌, length}
 use Rattle.base_answers.specs.Numbers.{Room}
-use Rattle.base_answers.specs.Answer.{given, refused}
+use Rattle.base_answers.specs.Answer.{Answer, given, refused}
 use Rattle.card_entries.specs.declared.Format.{Format}
 use Rattle.card_entries.specs.declared.Slot.{Slot}
 use Rattle.card_entries.specs.Entry.{entry_of}
@@ -25,14 +25,14 @@ Lettered n (settled (several s) k) = length s ≡ n
 Lettered n (settled no_build k) = Unit {0}
 Lettered n (unsettled k) = Unit {0}
 
-pub record Gives (f : Format) (es : List Slot) (budget : ℕ) (before : List ℕ) (r : BuildAnswer) (after : List ℕ) : Type 0 where
+pub record Gives (f : Format) (es : List Slot) (budget : ℕ) (before : List ℕ) (r : Answer BuildAnswer) (after : List ℕ) : Type 0 where
   pub outcome : Outcome
   pub means : Means f.kind f.l es budget outcome
   pub lettered : Lettered (length before) outcome
   pub answer : r ≡ answer_of (given outcome)
   pub output : after ≡ letters_after (given outcome) before
 
-pub data InRoom (f : Format) (es : List Slot) (budget : ℕ) (before : List ℕ) (r : BuildAnswer) (after : List ℕ) : Type 0 where
+pub data InRoom (f : Format) (es : List Slot) (budget : ℕ) (before : List ℕ) (r : Answer BuildAnswer) (after : List ℕ) : Type 0 where
   short : length before < letters_in f → r ≡ answer_of (refused Room 0) → after ≡ before → InRoom f es budget before r after
   fits : {o : Outcome} → letters_in f ≤ length before
       → Means f.kind f.l es budget o

@@ -6,26 +6,20 @@ ghost use Rattle.card_entries.specs.Hold.{ListsHold};
 ghost use Rattle.build_card.specs.From.{Found};
 
 use build_method::MethodAnswer;
-use card_entries::Format;
+use card_entries::{EntryLists, Format};
 
 // The method of the card's kind. The words of the alphabetically first build are the first ones of `found`, where there is a build.
-pub fn find(
-    f: Format,
-    words: &[u32],
-    ones: &[u16],
-    twos: &[u16],
-    budget: u32,
-    found: &mut [u32],
-) -> MethodAnswer
-    requires lists_hold { ListsHold most_entries f words.now ones.now twos.now }
-    requires words_in_bounds { length words.now ≤ length found.old }
+#[tactic(auto, using(crate::proofs::FromLaws::founds))]
+pub fn find(f: Format, lists: &EntryLists, budget: u32, found: &mut [u32]) -> MethodAnswer
+    requires lists_hold { ListsHold most_entries f lists.now.words.now lists.now.ones.now lists.now.twos.now }
+    requires words_in_bounds { length lists.now.words.now ≤ length found.old }
     ensures { Found f
-        (entries_in words.now ones.now twos.now)
+        (entries_in lists.now.words.now lists.now.ones.now lists.now.twos.now)
         budget result
-        (take (length words.now) found.new) }
+        (take (length lists.now.words.now) found.new) }
 {
     if f.kind == card_entries::SPAN {
-        return span_walk::walk(f.l, words, ones, twos, budget, found);
+        return span_walk::walk(f.l, lists, budget, found);
     }
-    pair_method::settle(f.l, words, ones, twos, found)
+    pair_method::settle(f.l, lists, found)
 }

@@ -5,11 +5,11 @@ use mathlib.Core.Logic.{◌⊎◌, inl, inr}
 use mathlib.Core.Bool.{Bool, true, false}
 use mathlib.Core.List.{List, [], ◌∷◌}
 use Prim.Native.Nat.{ℕ}
+use Rattle.std.specs.Prelude.{Option, Some, None}
 use native.Mathlib.Omega.{arith}
 use lib.Dec.{eqb}
 use lib.Pow.{pow_pos}
 use borrow.Author.Tests.{eqb-true, eq-eqb, ne_eqb}
-use Rattle.base_answers.specs.declared.Refusal.{Refusal}
 use Rattle.base_answers.specs.Numbers.{Kind}
 use Rattle.base_answers.specs.Answer.{Answer, given, refused, Sound, sound, Test, test, first}
 use Rattle.base_answers.proofs.Laws.{first_holds, first_refused, first_both, first_passed, first_last, first_fail, given_not_refused, refusal_same}
@@ -18,8 +18,7 @@ use Rattle.card_entries.specs.declared.Slot.{Slot}
 use Rattle.card_entries.specs.Fault.{pair, span}
 use Rattle.build_sequence.specs.Many.{Power, two_to, no_builds, how_many}
 use Rattle.build_sequence.proofs.ManyLaws.{many_one, exponent_one}
-use Rattle.build_count.specs.declared.Number.{Number}
-use Rattle.build_count.specs.declared.Number.TheVariants as is
+use Rattle.pair_method.specs.PairMethod.{power_by}
 use Rattle.build_count.specs.Counting.{number_of, count_tests, Counted, tells, refuses, Counts}
 use Rattle.build_count.specs.ByKind.{ByKind, on_pairs, on_spans}
 
@@ -70,13 +69,18 @@ module _ (ts : List Test) (kind : ℕ) where
 -- ---- the answer
 
 module _ {ts : List Test} {kind l : ℕ} {es : List Slot} where
-  pub refused_counts : {r : Refusal} → first ts sound ≡ refused r.number r.place → Counts number_of (Counted ts kind l es) (is.Refused r)
-  refused_counts {r} e = record { said = refused r.number r.place; says = refuses (tests_refuse ts kind e); answer = refl }
+  pub refused_counts : {n p : ℕ} → first ts sound ≡ refused n p → Counts number_of (Counted ts kind l es) (refused n p)
+  refused_counts {n} {p} e = record { said = refused n p; says = refuses (tests_refuse ts kind e); answer = refl }
 
   -- where the tests of the card or the lists hold, it goes by the kind
-  pub kind_counts : {r : Number} → first ts sound ≡ given sound → ByKind kind l es r → Counts number_of (Counted ts kind l es) r
+  pub kind_counts : {r : Answer (Option ℕ)} → first ts sound ≡ given sound → ByKind kind l es r → Counts number_of (Counted ts kind l es) r
   kind_counts e (on_pairs p k m a) = record { said = given p; says = tells (hold_tests ts kind e k) m; answer = a }
   kind_counts e (on_spans k a) = record { said = refused Kind 0; says = refuses (span_refused ts kind e k); answer = a }
+
+-- what the method finds is the number
+pub given_power : (choices : Option ℕ) → given choices ≡ number_of (given (power_by choices))
+given_power (Some k) = refl
+given_power None = refl
 
 -- ---- one answer at most
 
@@ -102,12 +106,12 @@ counts_one {form = form} c d = c.answer ∙ ap form (counted_one c.says d.says) 
 
 -- ---- another form
 
--- by the enum of the answer
-pub counts_as : {R : Type 0} (by : Number → R) {Says : Answer Power → Type 0} {q : Number} {r : R} → Counts number_of Says q → r ≡ by q
+-- by the answer
+pub counts_as : {R : Type 0} (by : Answer (Option ℕ) → R) {Says : Answer Power → Type 0} {q : Answer (Option ℕ)} {r : R} → Counts number_of Says q → r ≡ by q
     → Counts (λ a. by (number_of a)) Says r
 counts_as by c e = record { said = c.said; says = c.says; answer = e ∙ ap by c.answer }
 
 -- ---- the answer on a span card
 
-pub span_answered : {kind l : ℕ} {es : List Slot} → kind ≡ span → ByKind kind l es (is.Refused (record { number = Kind; place = 0 }))
+pub span_answered : {kind l : ℕ} {es : List Slot} → kind ≡ span → ByKind kind l es (refused Kind 0)
 span_answered e = on_spans e refl

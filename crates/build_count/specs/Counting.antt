@@ -4,10 +4,10 @@
 --   OfCard limit card a      == what is said of a card
 --   OfLists limit kind l words ones twos a
 --                            == what is said of lists
---   number_of a               == what is said, as the enum of the answer
+--   number_of a               == what is said, with the exponent as an option
 --   Counts form Says r       == the answer r: what is said, which Says tells, in this form
 -- Assumes nothing.
-use Rattle.std.specs.Prelude.{◌≡◌, List, [], ◌∷◌, ◌++◌, ℕ, eqb}
+use Rattle.std.specs.Prelude.{◌≡◌, List, [], ◌∷◌, ◌++◌, ℕ, eqb, Option, Some, None}
 use Rattle.base_answers.specs.Numbers.{Kind}
 use Rattle.base_answers.specs.Answer.{Answer, given, refused, Test, test, first, sound}
 use Rattle.card_entries.specs.declared.Slot.{Slot}
@@ -19,8 +19,6 @@ use Rattle.card_lists.specs.Lists.{lists_tests}
 use Rattle.build_sequence.specs.Build.{Build}
 use Rattle.build_sequence.specs.Many.{Many, Power, two_to, no_builds, how_many}
 use Rattle.pair_theory.specs.Settling.{pair_entries}
-use Rattle.build_count.specs.declared.Number.{Number}
-use Rattle.build_count.specs.declared.Number.TheVariants as is
 
 -- "Refusals: 5 on a span card."
 unfoldable pub count_tests : ℕ → List Test → List Test
@@ -39,10 +37,10 @@ abbrev pub OfLists : ℕ → ℕ → ℕ → List ℕ → List ℕ → List ℕ 
 OfLists limit kind l words ones twos = Counted (lists_tests limit kind l words ones twos) kind l (entries_in words ones twos)
 
 -- "the exponent is given, or that there is none"
-abbrev pub number_of : Answer Power → Number
-number_of (given (two_to k)) = is.Power k
-number_of (given no_builds) = is.None
-number_of (refused n p) = is.Refused (record { number = n; place = p })
+abbrev pub number_of : Answer Power → Answer (Option ℕ)
+number_of (given (two_to k)) = given (Some k)
+number_of (given no_builds) = given None
+number_of (refused n p) = refused n p
 
 pub record Counts {R : Type 0} (form : Answer Power → R) (Says : Answer Power → Type 0) (r : R) : Type 0 where
   pub said : Answer Power

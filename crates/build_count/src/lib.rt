@@ -2,87 +2,52 @@
 // tests its own input.
 #![tactic(auto)]
 
-ghost use Rattle.std.specs.Prelude.{◌≡◌, ◌≤◌, length, take};
-ghost use Rattle.base_answers.specs.Answer.{given};
+ghost use Rattle.std.specs.Prelude.{◌≡◌};
+ghost use Rattle.base_answers.specs.Answer.{says};
 ghost use Rattle.card_entries.specs.Slot.{entries_in};
 ghost use Rattle.card_entries.specs.Bounds.{most_entries};
 ghost use Rattle.card_entries.specs.Hold.{ListsHold};
-ghost use Rattle.pair_method.specs.PairMethod.{power_by};
 ghost use Rattle.build_count.specs.Counting.{OfCard, OfLists, number_of, Counts};
 ghost use Rattle.build_count.specs.ByKind.{ByKind};
 
-use base_answers::{Held, Refusal};
-use card_entries::{Format, MOST};
-use card_reader::Admitted;
-use pair_method::FreeChoices;
+use base_answers::Refusal;
+use card_entries::{EntryLists, Format, MOST};
+use card_reader::listing::ListRoom;
 
-// The number of builds: two to a power, none, or the refusal.
-#[derive(Clone, Copy)]
-pub enum Number {
-    Power(usize),
-    None,
-    Refused(Refusal),
-}
-
-// The number by what the method finds.
-fn number_by(p: FreeChoices) -> Number
-    ensures { result ≡ number_of (given (power_by p.found p.choices)) }
-{
-    if p.found {
-        return Number::Power(p.choices);
-    }
-    Number::None
-}
-
-// The number of builds of lists that hold.
+// The number of builds of lists that hold: there are two to it, or there is none.
 #[tactic(auto, using(crate::proofs::CountingLaws::span_answered))]
-fn count_from(f: Format, words: &[u32], ones: &[u16], twos: &[u16]) -> Number
-    requires { ListsHold most_entries f words.now ones.now twos.now }
-    ensures { ByKind f.kind f.l (entries_in words.now ones.now twos.now) result }
+fn count_from(f: Format, lists: &EntryLists) -> Result<Option<usize>, Refusal>
+    requires { ListsHold most_entries f lists.now.words.now lists.now.ones.now lists.now.twos.now }
+    ensures { ByKind f.kind f.l (entries_in lists.now.words.now lists.now.ones.now lists.now.twos.now) (says result) }
 {
     if f.kind == card_entries::SPAN {
-        return Number::Refused(Refusal {
-            number: base_answers::KIND,
-            place: 0,
-        });
+        return Err(Refusal::Kind);
     }
     let mut found = [0; MOST];
-    number_by(pair_method::pair(f.l, words, ones, twos, &mut found))
-}
-
-// The number of builds from the first m slots of lists into which a card of this format was admitted.
-fn count_listed(f: Format, words: &[u32], ones: &[u16], twos: &[u16]) -> Number
-    requires m_in_bounds { (f.m ≤ length words.now) × (f.m ≤ length ones.now) × (f.m ≤ length twos.now) }
-    requires lists_hold { ListsHold most_entries f (take f.m words.now) (take f.m ones.now) (take f.m twos.now) }
-    ensures { ByKind f.kind f.l
-        (entries_in (take f.m words.now) (take f.m ones.now) (take f.m twos.now)) result }
-{
-    let m = f.m;
-    count_from(f, &words[..m], &ones[..m], &twos[..m])
+    Ok(pair_method::pair(f.l, lists, &mut found))
 }
 
 // The number of builds of a card.
-pub fn count_card(card: &[u8]) -> Number
-    ensures { Counts number_of (OfCard most_entries card.now) result }
+pub fn count_card(card: &[u8]) -> Result<Option<usize>, Refusal>
+    ensures { Counts number_of (OfCard most_entries card.now) (says result) }
 {
-    let mut words = [0; MOST];
-    let mut ones = [0; MOST];
-    let mut twos = [0; MOST];
-    match card_reader::listing::admit_into(card, &mut words, &mut ones, &mut twos) {
-        Admitted::Card(f) => count_listed(f, &words, &ones, &twos),
-        Admitted::Refused(r) => Number::Refused(r),
-    }
+    let mut room = ListRoom::empty();
+    let f = room.admit(card)?;
+    count_from(f, &room.lists(f.m))
 }
 
 // The number of builds of lists.
-pub fn count_lists(kind: usize, l: usize, words: &[u32], ones: &[u16], twos: &[u16]) -> Number
-    ensures { Counts number_of (OfLists most_entries kind l words.now ones.now twos.now) result }
+// The three lists are parameters of their own, as C lends them.
+pub fn count_lists(
+    kind: usize,
+    l: usize,
+    words: &[u32],
+    ones: &[u16],
+    twos: &[u16],
+) -> Result<Option<usize>, Refusal>
+    ensures { Counts number_of (OfLists most_entries kind l words.now ones.now twos.now) (says result) }
 {
-    match card_lists::lists_hold(kind, l, words, ones, twos) {
-        Held::Holds => {
-            let m = words.len();
-            count_from(Format { kind, l, m }, words, ones, twos)
-        }
-        Held::Refused(r) => Number::Refused(r),
-    }
+    card_lists::lists_hold(kind, l, words, ones, twos)?;
+    let m = words.len();
+    count_from(Format { kind, l, m }, &EntryLists { words, ones, twos })
 }

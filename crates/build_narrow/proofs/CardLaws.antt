@@ -3,13 +3,12 @@ use mathlib.Core.Path.{◌≡◌, sym, ap, ◌∙◌}
 use mathlib.Core.List.{List}
 use Prim.Native.Nat.{ℕ, ◌≤◌}
 use lib.ListN.{length, take}
+use Rattle.std.specs.Prelude.{Result, Ok, Err}
 use Rattle.base_answers.specs.declared.Refusal.{Refusal}
-use Rattle.base_answers.specs.Answer.{Answer, given, first, sound}
+use Rattle.base_answers.specs.Answer.{Answer, given, refused, first, sound, number_of, place_of, says}
 use Rattle.card_entries.specs.declared.Format.{Format}
 use Rattle.card_entries.specs.Bounds.{most_entries}
-use Rattle.card_reader.specs.declared.Admitted.{Admitted}
-use Rattle.card_reader.specs.declared.Admitted.TheVariants.{Card, Refused}
-use Rattle.card_reader.specs.Fetching.{admission, says_admitted}
+use Rattle.card_reader.specs.Fetching.{admission}
 use Rattle.card_reader.specs.Listing.{Listed}
 use Rattle.card_reader.proofs.FetchingLaws.{admission_admits}
 use Rattle.card_reader.proofs.ListingLaws.{listed_admitted, listed_words, listed_ones, listed_twos, listed_not_admitted}
@@ -17,7 +16,6 @@ use Rattle.card_lists.proofs.Laws.{held_lists}
 use Rattle.card_reader.proofs.AdmittedLaws.{its_words, its_ones, its_twos, its_hold, format_same}
 use Rattle.build_sequence.specs.Verdict.{Outcome}
 use Rattle.build_card.specs.declared.BuildAnswer.{BuildAnswer}
-use Rattle.build_card.specs.declared.BuildAnswer.TheVariants as is
 use Rattle.build_card.specs.Building.{build_tests, answer_of}
 use Rattle.card_layout.specs.Layout.{slots_on}
 use Rattle.build_card.proofs.CardLaws.{reader_refuses, its_entries}
@@ -53,16 +51,16 @@ module _ (card : List ℕ) {f : Format} (admitted : admission most_entries card 
 
 -- ---- the card, by what it is admitted into
 
-module _ {card words ones twos words' ones' twos' : List ℕ} {q : Admitted}
-    (did : Listed most_entries card words ones twos q words' ones' twos') where
-  listed_says : (room : ℕ) {f : Format} {a : Answer Outcome} → q ≡ Card f
+module _ {card words ones twos words' ones' twos' : List ℕ} {q : Result Format Refusal}
+    (did : Listed most_entries card words ones twos (says q) words' ones' twos') where
+  listed_says : (room : ℕ) {f : Format} {a : Answer Outcome} → q ≡ Ok f
       → OfLists most_entries f.kind f.l (take f.m words') (take f.m ones') (take f.m twos') room a
       → OfCard most_entries card room a
   listed_says room e c =
-      let told = ap says_admitted e in
+      let told = ap says e in
       its_settled card (listed_admitted did told) room (rw (listed_words did told, listed_ones did told, listed_twos did told) at c)
 
-  pub listed_settles : {f : Format} {before after : List ℕ} {r : BuildAnswer} → q ≡ Card f
+  pub listed_settles : {f : Format} {before after : List ℕ} {r : Answer BuildAnswer} → q ≡ Ok f
       → SettlesInto answer_of (OfLists most_entries f.kind f.l (take f.m words') (take f.m ones') (take f.m twos') (length before))
       before r after
       → SettlesInto answer_of (OfCard most_entries card (length before)) before r after
@@ -73,11 +71,11 @@ module _ {card words ones twos words' ones' twos' : List ℕ} {q : Admitted}
     output = c.output;
   }
 
-  pub card_refused : {n : Refusal} {before : List ℕ} → q ≡ Refused n → most_entries ≤ length words → most_entries ≤ length ones
+  pub card_refused : {n : Refusal} {before : List ℕ} → q ≡ Err n → most_entries ≤ length words → most_entries ≤ length ones
       → most_entries ≤ length twos
-      → SettlesInto answer_of (OfCard most_entries card (length before)) before (is.Refused n) before
+      → SettlesInto answer_of (OfCard most_entries card (length before)) before (refused (number_of n) (place_of n)) before
   card_refused {n} {before} e a b c =
-      let said : Listed most_entries card words ones twos (Refused n) words' ones' twos' = rw e at did in
+      let said : Listed most_entries card words ones twos (refused (number_of n) (place_of n)) words' ones' twos' = rw e at did in
       refused_settles
       (tests_refuse _ _ (build_tests most_entries card (length before))
       (reader_refuses most_entries card (length before) (listed_not_admitted said a b c)))

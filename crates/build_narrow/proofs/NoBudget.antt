@@ -19,7 +19,7 @@ settled_unbudgeted : {ts : List Test} {kind l : ℕ} {es : List Slot} {a : Answe
 settled_unbudgeted (tells e m) = means_unbudgeted m
 settled_unbudgeted (refuses e) = tt
 
-pub settles_unbudgeted : {ts : List Test} {kind l : ℕ} {es : List Slot} {before after : List ℕ} {r : BuildAnswer}
+pub settles_unbudgeted : {ts : List Test} {kind l : ℕ} {es : List Slot} {before after : List ℕ} {r : Answer BuildAnswer}
     → SettlesInto answer_of (Settled ts kind l es) before r after
     → Unbudgeted r
 settles_unbudgeted c = rw c.answer (settled_unbudgeted c.says)

@@ -4,44 +4,43 @@ use mathlib.Core.List.{List, ◌++◌}
 use Prim.Native.Nat.{ℕ, ◌≤◌}
 use native.Mathlib.Omega.{arith}
 use lib.ListN.{length, take, drop}
-use Rattle.base_answers.specs.declared.Refusal.{Refusal}
 use Rattle.base_answers.specs.Answer.{Answer, given, refused, Test, first, sound}
-use Rattle.base_answers.proofs.Laws.{given_not_refused, refusal_same}
+use Rattle.base_answers.proofs.Laws.{given_not_refused, refusal_same, told_holds, told_refused}
 use Rattle.card_entries.specs.declared.Slot.{Slot}
 use Rattle.card_entries.specs.Slot.{entries_in}
 use Rattle.card_entries.specs.Fault.{span}
 use Rattle.card_entries.specs.Bounds.{most_entries}
 use Rattle.card_entries.specs.Hold.{format_for, ListsHold}
-use Rattle.card_lists.proofs.Laws.{held_lists}
+use Rattle.card_lists.proofs.Laws.{held_lists, lists_held}
+use Rattle.card_entries.proofs.HoldLaws.{some_letter, few_letters, few_entries}
 use Rattle.build_sequence.specs.Verdict.{Outcome}
 use Rattle.span_layers.specs.Settling.{MeansNarrow}
 use Rattle.span_layers.proofs.Meant.{means_one}
 use Rattle.build_card.specs.declared.BuildAnswer.{BuildAnswer}
-use Rattle.build_card.specs.declared.BuildAnswer.TheVariants as is
 use Rattle.build_card.specs.Building.{letters_in, answer_of, letters_after}
 use Rattle.build_card.specs.From.{Lettered}
 use Rattle.build_card.proofs.FromLaws.{start_whole}
 use Rattle.build_narrow.specs.Settling.{lists_build_tests, settle_tests, Settled, tells, refuses, OfLists, SettlesInto}
 use Rattle.build_narrow.specs.Passing.{PassesTests}
-use Rattle.build_narrow.proofs.TestLaws.{span_tests, tests_refuse, tests_go_on, tests_same, lists_has_room, passes_span}
+use Rattle.build_narrow.proofs.TestLaws.{span_tests, tests_refuse, tests_go_on, tests_same, lists_refuse, lists_no_room, lists_has_room, passes_span}
 
 module _ {ts : List Test} {kind l : ℕ} {es : List Slot} {before : List ℕ} where
-  pub refused_settles : {r : Refusal} → first (settle_tests kind es ts) sound ≡ refused r.number r.place
-      → SettlesInto answer_of (Settled ts kind l es) before (is.Refused r) before
-  refused_settles {r} e = record { said = refused r.number r.place; says = refuses e; answer = refl; output = refl }
+  pub refused_settles : {n p : ℕ} → first (settle_tests kind es ts) sound ≡ refused n p
+      → SettlesInto answer_of (Settled ts kind l es) before (refused n p) before
+  refused_settles {n} {p} e = record { said = refused n p; says = refuses e; answer = refl; output = refl }
 
   -- refused by the tests of building
-  pub building_refused : {r : Refusal} → first ts sound ≡ refused r.number r.place
-      → SettlesInto answer_of (Settled ts kind l es) before (is.Refused r) before
+  pub building_refused : {n p : ℕ} → first ts sound ≡ refused n p
+      → SettlesInto answer_of (Settled ts kind l es) before (refused n p) before
   building_refused e = refused_settles (tests_refuse kind es ts e)
 
   -- and where they hold, by the kind or a width
-  pub spans_refused : {r : Refusal} → first ts sound ≡ given sound → first (span_tests kind es) sound ≡ refused r.number r.place
-      → SettlesInto answer_of (Settled ts kind l es) before (is.Refused r) before
+  pub spans_refused : {n p : ℕ} → first ts sound ≡ given sound → first (span_tests kind es) sound ≡ refused n p
+      → SettlesInto answer_of (Settled ts kind l es) before (refused n p) before
   spans_refused e f = refused_settles (tests_go_on kind es ts e ∙ f)
 
   -- what is spelled into the start of the output
-  pub start_settles : {n : ℕ} {o : Outcome} {r : BuildAnswer} {start : List ℕ} → first (settle_tests kind es ts) sound ≡ given sound
+  pub start_settles : {n : ℕ} {o : Outcome} {r : Answer BuildAnswer} {start : List ℕ} → first (settle_tests kind es ts) sound ≡ given sound
       → n ≤ length before
       → MeansNarrow l es o
       → Lettered (length (take n before)) o
@@ -76,7 +75,7 @@ module _ {kind l : ℕ} {words ones twos : List ℕ} {room : ℕ} (p : PassesTes
   pub passes_as_span : PassesTests span l words ones twos room
   passes_as_span = rw (passes_span p) at p
 
-  pub span_settles : {before after : List ℕ} {r : BuildAnswer}
+  pub span_settles : {before after : List ℕ} {r : Answer BuildAnswer}
       → SettlesInto answer_of (OfLists most_entries span l words ones twos room) before r after
       → SettlesInto answer_of (OfLists most_entries kind l words ones twos room) before r after
   span_settles c = rw (passes_span p) c
@@ -113,9 +112,9 @@ settles_one {form = form} {before = before} c d =
 
 -- ---- another form
 
--- one that goes by the enum of the answer
-pub settles_as : {R : Type 0} {form : Answer Outcome → R} (by : BuildAnswer → R) → ((a : Answer Outcome) → by (answer_of a) ≡ form a)
-    → {Says : Answer Outcome → Type 0} {before after : List ℕ} {q : BuildAnswer} {r : R} → SettlesInto answer_of Says before q after
+-- one that goes by the answer
+pub settles_as : {R : Type 0} {form : Answer Outcome → R} (by : Answer BuildAnswer → R) → ((a : Answer Outcome) → by (answer_of a) ≡ form a)
+    → {Says : Answer Outcome → Type 0} {before after : List ℕ} {q : Answer BuildAnswer} {r : R} → SettlesInto answer_of Says before q after
     → r ≡ by q
     → SettlesInto form Says before r after
 settles_as by same c e = record {
@@ -124,3 +123,7 @@ settles_as by same c e = record {
   answer = e ∙ ap by c.answer ∙ same c.said;
   output = c.output;
 }
+
+-- ---- what the check applies by itself, to the tests of lists
+
+pub ruleset tellings = (told_holds, told_refused, lists_held, held_lists, lists_refuse, lists_no_room, lists_has_room, building_refused, spans_refused, lists_long, spans_pass, passes_as_span, span_settles, some_letter, few_letters, few_entries)

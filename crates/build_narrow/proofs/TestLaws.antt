@@ -10,7 +10,8 @@ use borrow.Author.Tests.{eqb-true, eq-eqb, ne_eqb, leb-true, leb-false, le-leb, 
 use Rattle.base_answers.specs.Numbers.{Kind, Room, Wider}
 use Rattle.base_answers.specs.Answer.{Answer, given, refused, Sound, sound, Test, test, first}
 use Rattle.base_lists.specs.Row.{row, in_turn}
-use Rattle.base_answers.proofs.Laws.{first_holds, first_refused, first_both, first_pass, first_passed, first_last, first_fail, turns_hold}
+use Rattle.base_answers.proofs.Laws.{first_holds, first_refused, first_both, first_pass, first_passed, first_last, first_fail, turns_hold, turn_holds, turn_refused, turns_end}
+use Rattle.base_lists.proofs.TestLaws.{failed, passed}
 use Rattle.base_answers.proofs.Only.{Only, Numbered, none, also, only_append, only_refused}
 use Rattle.base_lists.proofs.RowLaws.{row_none, row_first, turns_none, turns_first}
 use Rattle.base_answers.proofs.TurnLaws.{first_cases, none_refuse, turns_fault, fault_turns}
@@ -233,3 +234,10 @@ module _ {kind l : ℕ} {words ones twos : List ℕ} {room : ℕ} (p : PassesTes
 
   pub passes_narrow : Narrow (entries_in words ones twos)
   passes_narrow = narrowing.1
+
+-- ---- what the check applies by itself
+
+-- to the kind, and to the widths
+pub ruleset spans = (span_go_on, span_wrong)
+
+pub ruleset widths = (first_last, first_fail, turn_holds, turn_refused, turns_end, failed, passed, widths_in_turn)

@@ -25,7 +25,7 @@ use Rattle.build_sequence.specs.Verdict.{Outcome}
 use Rattle.span_layers.specs.Narrow.{is_narrow}
 use Rattle.span_layers.specs.Settling.{MeansNarrow}
 use Rattle.build_card.specs.declared.BuildAnswer.{BuildAnswer}
-use Rattle.build_card.specs.declared.BuildAnswer.TheVariants.{Sole, Several, None, Unsettled, Refused}
+use Rattle.build_card.specs.declared.BuildAnswer.TheVariants.{Sole, Several, None, Unsettled}
 use Rattle.build_card.specs.Building.{letters_in, build_tests, letters_after}
 
 -- "30 Wider with the first entry over 4"
@@ -61,9 +61,9 @@ pub record SettlesInto {R : Type 0} (form : Answer Outcome → R) (Says : Answer
   pub output : after ≡ letters_after said before
 
 -- "with no budget […] and its placements are 0"
-abbrev pub Unbudgeted : BuildAnswer → Type 0
-Unbudgeted (Sole n k) = k ≡ 0
-Unbudgeted (Several n k) = k ≡ 0
-Unbudgeted (None k) = k ≡ 0
-Unbudgeted (Unsettled k) = ⊥
-Unbudgeted (Refused r) = Unit {0}
+abbrev pub Unbudgeted : Answer BuildAnswer → Type 0
+Unbudgeted (given (Sole n k)) = k ≡ 0
+Unbudgeted (given (Several n k)) = k ≡ 0
+Unbudgeted (given (None k)) = k ≡ 0
+Unbudgeted (given (Unsettled k)) = ⊥
+Unbudgeted (refused n p) = Unit {0}

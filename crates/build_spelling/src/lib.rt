@@ -16,9 +16,10 @@ fn code_at(l: usize, words: &[u32], c: usize) -> usize
     ensures { (result ≡ get_or (spell l words.now) c 0) × (result < codes) }
 {
     if c < l {
-        return (words[0] / card_entries::words_of(l - 1 - c) % CODES) as usize;
+        (words[0] / card_entries::words_of(l - 1 - c) % CODES) as usize
+    } else {
+        (words[c + 1 - l] % CODES) as usize
     }
-    (words[c + 1 - l] % CODES) as usize
 }
 
 // Writes the letters of the words, each of which overlaps the one before it, over all of an output of just their length.
@@ -27,10 +28,7 @@ pub fn spell(l: usize, words: &[u32], out: &mut [u8])
     requires out_len { length out.old + 1 ≡ length words.now + l }
     ensures { out.new ≡ map letter_of (spell l words.now) }
 {
-    let n = out.len();
-    let mut c = 0;
-    while c < n {
-        out[c] = base_letters::letter_of(code_at(l, words, c));
-        c += 1;
+    for (c, letter) in out.iter_mut().enumerate() {
+        *letter = base_letters::letter_of(code_at(l, words, c));
     }
 }

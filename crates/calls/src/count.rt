@@ -2,18 +2,18 @@
 ghost use Rattle.std.specs.Prelude.{◌≤◌};
 ghost use Rattle.test_records.specs.Record.{slots};
 
-use build_count::Number;
+use base_answers::Refusal;
 use std::io::{Read, Write};
 use test_records::input::FIELDS;
 use test_records::lent::ROOM;
 use test_records::{input, lent, output};
 
 // Tells the number of builds.
-fn tell(to: &mut impl Write, n: Number) {
+fn tell(to: &mut impl Write, n: Result<Option<usize>, Refusal>) {
     match n {
-        Number::Power(k) => output::one(to, b"power", k),
-        Number::None => output::text(to, b"none"),
-        Number::Refused(r) => output::refused(to, r),
+        Ok(Some(k)) => output::one(to, b"power", k),
+        Ok(None) => output::text(to, b"none"),
+        Err(r) => output::refused(to, r),
     }
     output::text(to, b"\n")
 }
@@ -27,13 +27,13 @@ fn tell_card(from: &mut impl Read, to: &mut impl Write, card: &mut [u8]) -> bool
     true
 }
 
-// The same with a card of as many bytes as the fields say, where there can be such.
+// The functions of a record stand alike, as settle.rt says. The same with a card of as many bytes as the fields say, where there can be such.
 pub fn of_card(from: &mut impl Read, to: &mut impl Write, fields: &[u8; FIELDS]) -> bool {
     let n = card_block::four_at(fields, 0) as usize;
     if ROOM < n {
         return false;
     }
-    let mut card = lent::bytes();
+    let mut card = lent::bytes::<ROOM>();
     tell_card(from, to, &mut card[..n])
 }
 
@@ -48,29 +48,22 @@ fn tell_lists(
 ) -> bool
     requires { (a ≤ slots) × (b ≤ slots) × (c ≤ slots) }
 {
-    let read = input::lists(from, a, b, c);
-    if !read.whole {
+    let Some(read) = input::lists(from, a, b, c) else {
         return false;
-    }
-    let words = read.words;
-    let ones = read.ones;
-    let twos = read.twos;
+    };
     let kind = input::eight_at(fields, 0);
     let l = input::eight_at(fields, 8);
     tell(
         to,
-        build_count::count_lists(kind, l, &words[..a], &ones[..b], &twos[..c]),
+        build_count::count_lists(kind, l, &read.words[..a], &read.ones[..b], &read.twos[..c]),
     );
     true
 }
 
 // The same with lists of as many slots as the fields say, where there can be such.
 pub fn of_lists(from: &mut impl Read, to: &mut impl Write, fields: &[u8; FIELDS]) -> bool {
-    let a = card_block::two_at(fields, 16) as usize;
-    let b = card_block::two_at(fields, 18) as usize;
-    let c = card_block::two_at(fields, 20) as usize;
-    if !input::are_few(a, b, c) {
+    let Some((a, b, c)) = input::slots_at(fields, 16) else {
         return false;
-    }
+    };
     tell_lists(from, to, fields, a, b, c)
 }

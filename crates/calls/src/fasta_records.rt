@@ -1,17 +1,21 @@
 // The records that write a name and letters as a FASTA record and read that, or read any, and the line that each prints.
+use base_answers::Refusal;
 use std::io::{Read, Write};
 use test_records::input::FIELDS;
 use test_records::lent::ROOM;
 use test_records::{input, lent, output};
-use text_fasta::reading::Parsed;
-use text_fasta::writing::Recorded;
 use text_fasta::{reading, writing};
 
 // Tells what reading answers, both lengths or the refusal, and what the two outputs hold afterwards.
-fn tell_parts(to: &mut impl Write, p: Parsed, name: &[u8], letters: &[u8]) {
+fn tell_parts(
+    to: &mut impl Write,
+    p: Result<(usize, usize), Refusal>,
+    name: &[u8],
+    letters: &[u8],
+) {
     match p {
-        Parsed::Parts(n, k) => output::two(to, b"parts", n, k),
-        Parsed::Refused(r) => output::refused(to, r),
+        Ok((n, k)) => output::two(to, b"parts", n, k),
+        Err(r) => output::refused(to, r),
     }
     output::hash(to, name);
     output::hash(to, letters);
@@ -23,8 +27,8 @@ fn read_back(to: &mut impl Write, out: &[u8], n: usize) -> bool {
     if out.len() < n {
         return false;
     }
-    let mut name = lent::bytes();
-    let mut letters = lent::bytes();
+    let mut name = lent::bytes::<ROOM>();
+    let mut letters = lent::bytes::<ROOM>();
     let p = reading::read(&out[..n], &mut name, &mut letters);
     output::text(to, b" ");
     tell_parts(to, p, &name, &letters);
@@ -39,19 +43,16 @@ fn write_told(
     letters: &mut [u8],
     out: &mut [u8],
 ) -> bool {
-    if !input::fill(from, name) {
-        return false;
-    }
-    if !input::fill(from, letters) {
+    if !input::fill(from, name) || !input::fill(from, letters) {
         return false;
     }
     match writing::write(name, letters, out) {
-        Recorded::Record(n) => {
+        Ok(n) => {
             output::one(to, b"record", n);
             output::hash(to, out);
             read_back(to, out, n)
         }
-        Recorded::Refused(r) => {
+        Err(r) => {
             output::refused(to, r);
             output::hash(to, out);
             output::text(to, b"\n");
@@ -98,20 +99,14 @@ pub fn of_fields(
     tag: u8,
     fields: &[u8; FIELDS],
 ) -> bool {
-    let i = card_block::two_at(fields, 0) as usize;
-    let j = card_block::two_at(fields, 2) as usize;
-    let k = card_block::two_at(fields, 4) as usize;
-    if ROOM < i {
+    let i = usize::from(card_block::two_at(fields, 0));
+    let j = usize::from(card_block::two_at(fields, 2));
+    let k = usize::from(card_block::two_at(fields, 4));
+    if ROOM < i || ROOM < j || ROOM < k {
         return false;
     }
-    if ROOM < j {
-        return false;
-    }
-    if ROOM < k {
-        return false;
-    }
-    let mut a = lent::bytes();
-    let mut b = lent::bytes();
-    let mut c = lent::bytes();
+    let mut a = lent::bytes::<ROOM>();
+    let mut b = lent::bytes::<ROOM>();
+    let mut c = lent::bytes::<ROOM>();
     told(from, to, tag, &mut a[..i], &mut b[..j], &mut c[..k])
 }

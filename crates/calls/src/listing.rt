@@ -2,30 +2,16 @@
 ghost use Rattle.std.specs.Prelude.{◌≤◌};
 ghost use Rattle.test_records.specs.Record.{slots};
 
-use card_writer::Written;
+use base_answers::Refusal;
 use std::io::{Read, Write};
 use test_records::input::FIELDS;
 use test_records::lent::{ROOM, SLOTS, TEXT_ROOM};
 use test_records::{input, lent, output};
-use text_export::Exported;
 
 // Tells what importing answers, the card's length under this name or the refusal, and what the output holds afterwards.
-fn tell_card(to: &mut impl Write, name: &[u8], w: Written, out: &[u8]) {
-    match w {
-        Written::Card(n) => output::one(to, name, n),
-        Written::Refused(r) => output::refused(to, r),
-    }
-    output::hash(to, out);
+fn tell_card(to: &mut impl Write, name: &[u8], w: Result<usize, Refusal>, out: &[u8]) {
+    output::written(to, name, w, out);
     output::text(to, b"\n")
-}
-
-// Tells what exporting answers, the list's length or the refusal, and what the output holds afterwards.
-fn tell_list(to: &mut impl Write, e: Exported, out: &[u8]) {
-    match e {
-        Exported::Text(n) => output::one(to, b"list", n),
-        Exported::Refused(r) => output::refused(to, r),
-    }
-    output::hash(to, out)
 }
 
 // Imports the list that follows, of as many bytes as are lent, and says whether the input has it.
@@ -38,18 +24,14 @@ fn import_told(from: &mut impl Read, to: &mut impl Write, list: &mut [u8], out: 
     true
 }
 
-// The same with a list and an output of as many bytes as the fields say, where there can be such.
+// The same with a list and an output of as many bytes as the fields say, where there can be such. The functions of a record stand alike, as
+// settle.rt says.
 pub fn of_list(from: &mut impl Read, to: &mut impl Write, fields: &[u8; FIELDS]) -> bool {
-    let n = card_block::four_at(fields, 0) as usize;
-    let room = card_block::two_at(fields, 4) as usize;
-    if TEXT_ROOM < n {
+    let Some((n, room)) = input::lengths(fields, TEXT_ROOM, ROOM) else {
         return false;
-    }
-    if ROOM < room {
-        return false;
-    }
-    let mut list = lent::texts();
-    let mut out = lent::bytes();
+    };
+    let mut list = lent::bytes::<TEXT_ROOM>();
+    let mut out = lent::bytes::<ROOM>();
     import_told(from, to, &mut list[..n], &mut out[..room])
 }
 
@@ -59,23 +41,18 @@ fn export_told(from: &mut impl Read, to: &mut impl Write, card: &mut [u8], out: 
         return false;
     }
     let e = text_export::export(card, out);
-    tell_list(to, e, out);
+    output::written(to, b"list", e, out);
     output::text(to, b"\n");
     true
 }
 
 // The same with a card and an output of as many bytes as the fields say, where there can be such.
 pub fn of_card(from: &mut impl Read, to: &mut impl Write, fields: &[u8; FIELDS]) -> bool {
-    let n = card_block::four_at(fields, 0) as usize;
-    let room = card_block::two_at(fields, 4) as usize;
-    if ROOM < n {
+    let Some((n, room)) = input::lengths(fields, ROOM, TEXT_ROOM) else {
         return false;
-    }
-    if TEXT_ROOM < room {
-        return false;
-    }
-    let mut card = lent::bytes();
-    let mut out = lent::texts();
+    };
+    let mut card = lent::bytes::<ROOM>();
+    let mut out = lent::bytes::<TEXT_ROOM>();
     export_told(from, to, &mut card[..n], &mut out[..room])
 }
 
@@ -91,12 +68,12 @@ fn import_again(to: &mut impl Write, list: &[u8], n: usize, out: &mut [u8]) -> b
 
 // Exports a card and imports its list, and says whether that can be.
 fn again(to: &mut impl Write, card: &[u8]) -> bool {
-    let mut list = lent::texts();
-    let mut out = lent::bytes();
+    let mut list = lent::bytes::<TEXT_ROOM>();
+    let mut out = lent::bytes::<ROOM>();
     match text_export::export(card, &mut list) {
-        Exported::Text(n) => import_again(to, &list, n, &mut out),
-        Exported::Refused(r) => {
-            tell_card(to, b"again", Written::Refused(r), &out);
+        Ok(n) => import_again(to, &list, n, &mut out),
+        Err(r) => {
+            tell_card(to, b"again", Err(r), &out);
             true
         }
     }
@@ -116,7 +93,7 @@ pub fn again_of_card(from: &mut impl Read, to: &mut impl Write, fields: &[u8; FI
     if ROOM < n {
         return false;
     }
-    let mut card = lent::bytes();
+    let mut card = lent::bytes::<ROOM>();
     again_told(from, to, &mut card[..n])
 }
 
@@ -125,14 +102,14 @@ fn list_and_again(to: &mut impl Write, card: &[u8], n: usize) -> bool {
     if card.len() < n {
         return false;
     }
-    let mut list = lent::texts();
-    let mut out = lent::bytes();
+    let mut list = lent::bytes::<TEXT_ROOM>();
+    let mut out = lent::bytes::<ROOM>();
     let e = text_export::export(&card[..n], &mut list);
-    tell_list(to, e, &list);
+    output::written(to, b"list", e, &list);
     output::text(to, b" ");
     match e {
-        Exported::Text(k) => import_again(to, &list, k, &mut out),
-        Exported::Refused(r) => false,
+        Ok(k) => import_again(to, &list, k, &mut out),
+        Err(_) => false,
     }
 }
 
@@ -140,25 +117,28 @@ fn list_and_again(to: &mut impl Write, card: &[u8], n: usize) -> bool {
 fn lists_told(from: &mut impl Read, to: &mut impl Write, fields: &[u8; FIELDS], m: usize) -> bool
     requires { m ≤ slots }
 {
-    let read = input::lists(from, m, m, m);
-    if !read.whole {
+    let Some(read) = input::lists(from, m, m, m) else {
         return false;
-    }
-    let words = read.words;
-    let ones = read.ones;
-    let twos = read.twos;
+    };
     let kind = input::eight_at(fields, 0);
     let l = input::eight_at(fields, 8);
-    let mut card = lent::bytes();
-    match card_writer::write(kind, l, &words[..m], &ones[..m], &twos[..m], &mut card) {
-        Written::Card(n) => list_and_again(to, &card, n),
-        Written::Refused(r) => false,
+    let mut card = lent::bytes::<ROOM>();
+    match card_writer::write(
+        kind,
+        l,
+        &read.words[..m],
+        &read.ones[..m],
+        &read.twos[..m],
+        &mut card,
+    ) {
+        Ok(n) => list_and_again(to, &card, n),
+        Err(_) => false,
     }
 }
 
 // The same with lists of as many slots as the fields say, where there can be such.
 pub fn again_of_lists(from: &mut impl Read, to: &mut impl Write, fields: &[u8; FIELDS]) -> bool {
-    let m = card_block::two_at(fields, 16) as usize;
+    let m = usize::from(card_block::two_at(fields, 16));
     if SLOTS < m {
         return false;
     }

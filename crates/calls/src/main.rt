@@ -61,7 +61,8 @@ fn bytes_of(tag: u8) -> usize
     }
 }
 
-// Runs a record, and says whether there is such a record, and all of it.
+// Runs a record, and says whether there is such a record, and all of it. A tag stays the byte that the format above has: an enum would name each tag
+// a second and a third time.
 fn run(from: &mut impl Read, to: &mut impl Write, tag: u8, fields: &[u8; FIELDS]) -> bool {
     match tag {
         b'C' => count::of_card(from, to, fields),
@@ -85,10 +86,8 @@ fn next(from: &mut impl Read, to: &mut impl Write) -> bool {
     }
     let mut fields = [0u8; FIELDS];
     let k = bytes_of(tag[0]);
-    if input::fill(from, &mut fields[..k]) {
-        if run(from, to, tag[0], &fields) {
-            return true;
-        }
+    if input::fill(from, &mut fields[..k]) && run(from, to, tag[0], &fields) {
+        return true;
     }
     output::text(to, b"bad record\n");
     false
@@ -96,12 +95,10 @@ fn next(from: &mut impl Read, to: &mut impl Write) -> bool {
 
 // Runs the records in turn.
 fn run_all(from: &mut impl Read, to: &mut impl Write) {
-    let mut turns = TURNS;
-    while 0 < turns {
+    for _ in 0..TURNS {
         if !next(from, to) {
             return;
         }
-        turns -= 1;
     }
 }
 

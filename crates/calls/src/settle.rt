@@ -2,6 +2,7 @@
 ghost use Rattle.std.specs.Prelude.{◌≤◌};
 ghost use Rattle.test_records.specs.Record.{slots};
 
+use base_answers::Refusal;
 use build_card::BuildAnswer;
 use std::io::{Read, Write};
 use test_records::input::FIELDS;
@@ -9,13 +10,13 @@ use test_records::lent::{LETTERS, ROOM};
 use test_records::{input, lent, output};
 
 // Tells what settling answers, the verdict with its numbers or the refusal, and what the output holds afterwards.
-fn tell(to: &mut impl Write, a: BuildAnswer, out: &[u8]) {
+fn tell(to: &mut impl Write, a: Result<BuildAnswer, Refusal>, out: &[u8]) {
     match a {
-        BuildAnswer::Sole(n, k) => output::two(to, b"sole", n, k as usize),
-        BuildAnswer::Several(n, k) => output::two(to, b"several", n, k as usize),
-        BuildAnswer::None(k) => output::one(to, b"none", k as usize),
-        BuildAnswer::Unsettled(k) => output::one(to, b"unsettled", k as usize),
-        BuildAnswer::Refused(r) => output::refused(to, r),
+        Ok(BuildAnswer::Sole(n, k)) => output::two(to, b"sole", n, k as usize),
+        Ok(BuildAnswer::Several(n, k)) => output::two(to, b"several", n, k as usize),
+        Ok(BuildAnswer::None(k)) => output::one(to, b"none", k as usize),
+        Ok(BuildAnswer::Unsettled(k)) => output::one(to, b"unsettled", k as usize),
+        Err(r) => output::refused(to, r),
     }
     output::hash(to, out);
     output::text(to, b"\n")
@@ -31,18 +32,14 @@ fn tell_card(from: &mut impl Read, to: &mut impl Write, card: &mut [u8], out: &m
     true
 }
 
-// The same with a card and an output of as many bytes as the fields say, where there can be such.
+// The same with a card and an output of as many bytes as the fields say, where there can be such. The functions of a record stand alike: each has its
+// own limits, its own lent bytes and its own call, and one function that is given all three would be longer than each.
 pub fn of_card(from: &mut impl Read, to: &mut impl Write, fields: &[u8; FIELDS]) -> bool {
-    let n = card_block::four_at(fields, 0) as usize;
-    let room = card_block::two_at(fields, 4) as usize;
-    if ROOM < n {
+    let Some((n, room)) = input::lengths(fields, ROOM, LETTERS) else {
         return false;
-    }
-    if LETTERS < room {
-        return false;
-    }
-    let mut card = lent::bytes();
-    let mut out = lent::bytes();
+    };
+    let mut card = lent::bytes::<ROOM>();
+    let mut out = lent::bytes::<ROOM>();
     tell_card(from, to, &mut card[..n], &mut out[..room])
 }
 
@@ -58,32 +55,32 @@ fn tell_lists(
 ) -> bool
     requires { (a ≤ slots) × (b ≤ slots) × (c ≤ slots) }
 {
-    let read = input::lists(from, a, b, c);
-    if !read.whole {
+    let Some(read) = input::lists(from, a, b, c) else {
         return false;
-    }
-    let words = read.words;
-    let ones = read.ones;
-    let twos = read.twos;
+    };
     let kind = input::eight_at(fields, 0);
     let l = input::eight_at(fields, 8);
-    let s = build_narrow::settle_lists(kind, l, &words[..a], &ones[..b], &twos[..c], out);
+    let s = build_narrow::settle_lists(
+        kind,
+        l,
+        &read.words[..a],
+        &read.ones[..b],
+        &read.twos[..c],
+        out,
+    );
     tell(to, s, out);
     true
 }
 
 // The same with lists of as many slots, and an output of as many bytes, as the fields say, where there can be such.
 pub fn of_lists(from: &mut impl Read, to: &mut impl Write, fields: &[u8; FIELDS]) -> bool {
-    let a = card_block::two_at(fields, 16) as usize;
-    let b = card_block::two_at(fields, 18) as usize;
-    let c = card_block::two_at(fields, 20) as usize;
-    let room = card_block::two_at(fields, 22) as usize;
-    if !input::are_few(a, b, c) {
+    let Some((a, b, c)) = input::slots_at(fields, 16) else {
         return false;
-    }
+    };
+    let room = usize::from(card_block::two_at(fields, 22));
     if LETTERS < room {
         return false;
     }
-    let mut out = lent::bytes();
+    let mut out = lent::bytes::<ROOM>();
     tell_lists(from, to, fields, a, b, c, &mut out[..room])
 }

@@ -1,20 +1,27 @@
 -- The laws of numbers in bytes, and of writing and reading them, that this crate's proofs and the crates above cite. Assumes nothing.
 use mathlib.Core.Path.{◌≡◌, refl, sym, ap, ◌∙◌}
-use mathlib.Core.List.{List, [], ◌∷◌, ◌++◌, append_assoc}
+use mathlib.Core.List.{List, ◌∷◌, ◌++◌, append_assoc}
 use Prim.Native.Nat.{ℕ, suc, ◌+◌, ◌*◌, ◌/◌, ◌%◌, ◌≤◌, ◌<◌}
 use native.Mathlib.Omega.{arith}
-use lib.ListN.{length, get_or, drop, set, length-append}
+use lib.ListN.{length, get_or, drop, length-append}
 use lib.Seq.{drop-cons, get_or_at, get_or-append-add}
 use Rattle.card_block.specs.Bytes.{two_at, four_at, two_bytes, four_bytes, AreBytes}
-use Rattle.base_lists.specs.Parts.{put_at}
-use Rattle.base_lists.proofs.PutLaws.{put_one, put_on, put_next}
+use Rattle.std.specs.Int.{w16, w32, to_le_bytes}
 
 -- ---- numbers in bytes
 
--- two stores are two bytes put
-pub two_put : (l : List ℕ) (at x : ℕ) → at + 2 ≤ length l → set (set l at (x % 256)) (at + 1) (x / 256) ≡ put_at (two_bytes x) at l
+-- std's bytes are these
+pub two_le : (x : ℕ) → x < 65536 → to_le_bytes w16 x ≡ two_bytes x
 unfolding two_bytes
-two_put l at x h = put_next l at (x % 256 ∷ []) (put_one l at (x % 256) (omega arith)) refl (x / 256) (omega arith)
+two_le x h = let high : x / 256 % 256 ≡ x / 256 = omega arith in rw high
+
+pub four_le : (x : ℕ) → x < 4294967296 → to_le_bytes w32 x ≡ four_bytes x
+unfolding four_bytes two_bytes
+four_le x h =
+    let first : x % 65536 % 256 ≡ x % 256 = omega arith in
+    let second : x % 65536 / 256 ≡ x / 256 % 256 = omega arith in
+    let fourth : x / 65536 / 256 ≡ x / 16777216 % 256 = omega arith in
+    rw (first, second, fourth)
 
 pub length_two : (x : ℕ) → length (two_bytes x) ≡ 2
 unfolding two_bytes
@@ -23,15 +30,6 @@ length_two x = refl
 pub length_four : (x : ℕ) → length (four_bytes x) ≡ 4
 unfolding four_bytes two_bytes
 length_four x = refl
-
--- two bytes, and two bytes
-pub four_put : (l : List ℕ) (at x : ℕ) {l₁ l₂ : List ℕ} → at + 4 ≤ length l → l₁ ≡ put_at (two_bytes (x % 65536)) at l
-    → l₂ ≡ put_at (two_bytes (x / 65536)) (at + 2) l₁ → l₂ ≡ put_at (four_bytes x) at l
-unfolding four_bytes
-four_put l at x h e₁ e₂ =
-    let low = length_two (x % 65536) in
-    let high = length_two (x / 65536) in
-    e₂ ∙ put_on l at (two_bytes (x % 65536)) e₁ (omega (arith, low)) (two_bytes (x / 65536)) (omega (arith, high))
 
 -- ---- a number that was written is read
 

@@ -1,49 +1,28 @@
 -- The laws of the blocks that this crate's proofs and the crates above cite. No contract cites this file. Assumes nothing.
 use mathlib.Core.Path.{◌≡◌, refl, sym, ap, ◌∙◌}
 use mathlib.Core.Logic.{◌↔◌}
-use mathlib.Core.Bool.{true, false}
+use mathlib.Core.Bool.{true}
 use mathlib.Core.List.{List, [], ◌∷◌, ◌++◌}
 use Prim.Native.Nat.{ℕ, zero, suc, ◌+◌, ◌*◌, ◌-◌, ◌≤◌, ◌<◌}
 use native.Mathlib.Nat.{add-sub_cancel_left}
 use native.Mathlib.Omega.{arith}
-use lib.ListN.{length, get_or, take, drop, length-take, length-drop, take-append-drop, drop_of_length-le}
+use lib.ListN.{length, take, drop, length-take, length-drop, take-append-drop, drop_of_length-le}
 use lib.Seq.{take_at, take-take, drop_at, drop-drop, get_or-drop}
 use lib.Dec.{eqb}
-use borrow.Author.Tests.{le-leb, lt-leb, leb-true, eq-eqb, ne_eqb}
+use borrow.Author.Tests.{le-leb, lt-leb, leb-true, eq-eqb}
 use Rattle.base_answers.specs.Numbers.{Check, Index, Absent}
 use Rattle.base_answers.specs.Answer.{Answer, given, refused, Sound, sound, Test, test, first}
 use Rattle.base_lists.specs.Row.{in_turn}
 use Rattle.base_answers.proofs.Laws.{first_pass, first_fail, first_last, first_passed, first_holds, first_refused, first_given_any, first_refused_any}
 use Rattle.base_answers.proofs.Only.{Only, Numbered, none, also}
 use Rattle.base_lists.proofs.RowLaws.{turns_none, turns_first}
-use Rattle.card_block.specs.declared.check.CheckBytes.{CheckBytes}
 use Rattle.card_block.specs.Bytes.{AreBytes}
-use Rattle.card_block.specs.Check.{check_bytes, checks, check_at}
+use Rattle.card_block.specs.Check.{checks}
 use Rattle.card_block.specs.Block.{block_bytes, block_at, index_of, block_tests, fetch_tests, part_of, fetch_of, place_of, start_of, offset_of}
-
--- ---- the check
-
--- by the check bytes: the first of them, and then the second
-module _ (b : List ℕ) (c : CheckBytes) (e : c ≡ check_bytes (take check_at b)) where
-  pub checks_not : (c.first ≡ get_or b check_at 0 → ⊥) → false ≡ checks b
-  unfolding checks
-  checks_not h = simp (← e, ne_eqb _ _ h)
-
-  pub checks_when : c.first ≡ get_or b check_at 0 → eqb c.second (get_or b (check_at + 1) 0) ≡ checks b
-  unfolding checks
-  checks_when h = simp (← e, eq-eqb _ _ h)
 
 -- ---- a block
 
 module _ (b : List ℕ) (k : ℕ) where
-  pub block_unchecked : checks b ≡ false → first (block_tests b k) sound ≡ refused Check k
-  unfolding block_tests
-  block_unchecked h = first_fail _ _ _ _ _ h
-
-  pub block_elsewhere : checks b ≡ true → (index_of b ≡ k → ⊥) → first (block_tests b k) sound ≡ refused Index k
-  unfolding block_tests
-  block_elsewhere h i = first_pass _ _ _ _ _ h ∙ first_fail _ _ _ _ _ (ne_eqb _ _ i)
-
   pub block_sound : checks b ≡ true → index_of b ≡ k → first (block_tests b k) sound ≡ given sound
   unfolding block_tests
   block_sound h i =

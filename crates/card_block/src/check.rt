@@ -29,7 +29,7 @@ fn plain_step(s: Sums, x: u8) -> Sums
     requires { (s.a ≤ most_a) × (s.b ≤ most_b) }
     ensures { result ≡ plain_step s x }
 {
-    let a = s.a + x as u32;
+    let a = s.a + u32::from(x);
     Sums { a, b: s.b + a }
 }
 
@@ -39,10 +39,8 @@ fn sum_up(bytes: &[u8]) -> Sums
     ensures { result ≡ plain_of bytes.now }
 {
     let mut s = Sums { a: 0, b: 0 };
-    let mut i = 0;
-    while i < bytes.len() {
-        s = plain_step(s, bytes[i]);
-        i += 1;
+    for x in bytes {
+        s = plain_step(s, *x);
     }
     s
 }
@@ -60,13 +58,11 @@ pub fn bytes_of(bytes: &[u8]) -> CheckBytes
 }
 
 // Whether the check bytes of a block hold.
+#[tactic(auto, unfolding(crate::specs::Check::checks))]
 pub fn holds(block: &[u8]) -> bool
     requires { length block.now ≡ block_bytes }
     ensures { result ≡ checks block.now }
 {
     let c = bytes_of(&block[..CHECK_AT]);
-    if c.first != block[CHECK_AT] {
-        return false;
-    }
-    c.second == block[CHECK_AT + 1]
+    c.first == block[CHECK_AT] && c.second == block[CHECK_AT + 1]
 }

@@ -19,6 +19,8 @@ use Rattle.card_entries.proofs.entry_of.Kinds as entry_of
 use Rattle.card_entries.proofs.entry_of.Reads as entry_of_reads
 use Rattle.card_entries.proofs.entry_holds.Kinds as entry_holds
 use Rattle.card_entries.proofs.entry_holds.Reads as entry_holds_reads
+use Rattle.card_entries.proofs.EntryLists.slot.Kinds as slot
+use Rattle.card_entries.proofs.EntryLists.slot.Reads as slot_reads
 
 module _ (κs : Lfts 1) where
   pub slot_at_one : (a : Dens κs slot_at.ps) (r r' : (res_t slot_at.r κs).Denot) (e e' : AtExit (ended_of 1 slot_at.ps slot_at.r) κs)
@@ -28,6 +30,11 @@ module _ (κs : Lfts 1) where
   pub put_slot_one : (a : Dens κs put_slot.ps) (r r' : (res_t put_slot.r κs).Denot) (e e' : AtExit (ended_of 1 put_slot.ps put_slot.r) κs)
       → put_slot_reads.Post κs a r e → put_slot_reads.Post κs a r' e' → e.0.now ≡ e'.0.now
   put_slot_one a r r' e e' p q = p ∙ sym q
+
+module _ (κs : Lfts 2) where
+  pub slot_one : (a : Dens κs slot.ps) (r r' : (res_t slot.r κs).Denot) (e e' : AtExit (ended_of 2 slot.ps slot.r) κs)
+      → slot_reads.Post κs a r e → slot_reads.Post κs a r' e' → r ≡ r'
+  slot_one a r r' e e' p q = p ∙ sym q
 
 module _ (κs : Lfts 0) where
   pub is_kind_one : (a : Dens κs is_kind_lem.ps) (r r' : (res_t is_kind_lem.r κs).Denot)

@@ -2,16 +2,16 @@
 -- Assumes nothing.
 use mathlib.Core.Path.{◌≡◌, ◌∙◌}
 use mathlib.Core.Logic.{◌⊎◌, inl, inr, ⊎_elim}
-use mathlib.Core.Bool.{true, false, ◌&&◌, ◌||◌, and-false}
+use mathlib.Core.Bool.{true, ◌&&◌, ◌||◌}
 use mathlib.Core.List.{[], ◌∷◌}
 use Prim.Native.Nat.{ℕ, ◌+◌, ◌-◌, ◌^◌, ◌≤◌, ◌<◌}
 use native.Mathlib.Numerals.{add-one}
 use native.Mathlib.Omega.{arith}
 use lib.Dec.{leb, ltb, eqb}
-use borrow.Author.Tests.{lt-ltb, le-ltb, le-leb, lt-leb, ltb-true, leb-true, eqb-true, eq-eqb, ne_eqb}
+use borrow.Author.Tests.{lt-ltb, le-leb, ltb-true, leb-true, eqb-true, eq-eqb, ne_eqb}
 use Rattle.base_answers.specs.Numbers.{Word, Places}
-use Rattle.base_answers.specs.Answer.{given, refused, sound, test, first}
-use Rattle.base_answers.proofs.Laws.{first_pass, first_fail, first_last, first_passed}
+use Rattle.base_answers.specs.Answer.{given, sound, test, first}
+use Rattle.base_answers.proofs.Laws.{first_pass, first_last, first_passed}
 use Rattle.base_answers.proofs.Only.{Only, none, also, holds}
 use Rattle.base_lists.proofs.TestLaws.{both, either}
 use Rattle.card_entries.specs.declared.Format.{Format}
@@ -27,36 +27,9 @@ use Rattle.card_entries.specs.Entry.{places_of}
 pub within_both : (lo hi x : ℕ) → is_within lo hi x ≡ true → (lo ≤ x) × (x ≤ hi)
 within_both lo hi x e = let h = both (leb lo x) (leb x hi) e in (leb-true lo x h.0, leb-true x hi h.1)
 
--- ---- the places of a pair card
+-- ---- the places of a span card
 
 module _ (m one two : ℕ) where
-  pub pair_out : is_place m one ≡ false → false ≡ pair_holds m one two
-  unfolding pair_holds
-  pair_out h = rw h
-
-  module _ (there : is_place m one ≡ true) where
-    pub pair_one : two ≡ no_place → true ≡ pair_holds m one two
-    unfolding pair_holds
-    pair_one e = rw (there, eq-eqb two no_place e)
-
-    pub pair_two : (two ≡ no_place → ⊥) → one < two → is_place m two ≡ pair_holds m one two
-    unfolding pair_holds
-    pair_two n h = rw (there, ne_eqb two no_place n, lt-ltb one two h)
-
-    pub pair_turned : (two ≡ no_place → ⊥) → two ≤ one → false ≡ pair_holds m one two
-    unfolding pair_holds
-    pair_turned n h = rw (there, ne_eqb two no_place n, le-ltb one two h)
-
-  -- ---- the places of a span card
-
-  pub span_turned : two < one → false ≡ span_holds m one two
-  unfolding span_holds
-  span_turned h = rw (lt-leb one two h, and-false (is_place m one && is_place m two))
-
-  pub span_out : is_place m two ≡ false → false ≡ span_holds m one two
-  unfolding span_holds
-  span_out h = rw (h, and-false (is_place m one))
-
   pub span_width : one ≤ two → is_place m two ≡ true → ltb (two - one) widest ≡ span_holds m one two
   unfolding span_holds
   span_width h there =
@@ -120,10 +93,6 @@ module _ (kind one two : ℕ) where
 -- ---- the tests of an entry
 
 module _ (f : Format) (e : ℕ) (s : Slot) where
-  pub word_over : 4 ^ f.l ≤ s.word → first (entry_tests f e s) sound ≡ refused Word e
-  unfolding entry_tests
-  word_over h = first_fail _ _ _ _ _ (le-ltb s.word (4 ^ f.l) h)
-
   -- by which numbers they refuse
   pub entry_only : {P : ℕ → Type 0} → P Word → P Places → Only P (entry_tests f e s)
   unfolding entry_tests
@@ -141,9 +110,6 @@ module _ (f : Format) (e : ℕ) (s : Slot) where
   word_fits h = first_pass _ _ _ _ _ (lt-ltb s.word (4 ^ f.l) h)
 
   module _ (fits : s.word < 4 ^ f.l) where
-    pub places_wrong : places_hold f.kind f.m s.one s.two ≡ false → first (entry_tests f e s) sound ≡ refused Places e
-    places_wrong h = word_fits fits ∙ first_fail _ _ _ _ _ h
-
     pub entry_sound : places_hold f.kind f.m s.one s.two ≡ true → first (entry_tests f e s) sound ≡ given sound
     entry_sound h = word_fits fits ∙ first_last _ _ _ _ h
 

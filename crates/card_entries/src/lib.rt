@@ -1,20 +1,21 @@
 // The entries of a card: what kind, l and m may be, how an entry is stored, what makes it wrong, and the places that it allows.
 #![tactic(auto)]
 
-ghost use Rattle.std.specs.Prelude.{◌≡◌, ◌+◌, ◌*◌, ◌^◌, ◌≤◌, length};
+ghost use Rattle.std.specs.Prelude.{◌≡◌, ◌+◌, ◌*◌, ◌^◌, ◌≤◌, ◌<◌, length};
 ghost use Rattle.base_answers.specs.Answer.{first, sound, says_held};
 ghost use Rattle.base_lists.specs.Parts.{put_at};
-ghost use Rattle.card_entries.specs.Slot.{entry_bytes, slot_at, slot_bytes};
+ghost use Rattle.card_entries.specs.Slot.{entry_bytes, slot_at, slot_bytes, slot_from};
 ghost use Rattle.card_entries.specs.Fault.{is_place, pair_holds, span_holds, places_hold, entry_tests, least_length, most_length};
 ghost use Rattle.card_entries.specs.Bounds.{least_entries, most_entries, is_within, is_kind};
 ghost use Rattle.card_entries.specs.Entry.{places_of, entry_of};
 
-use base_answers::{Held, Refusal};
+use base_answers::Refusal;
 
 // The kinds of card.
 pub const PAIR: usize = 1;
 
 pub const SPAN: usize = 2;
+
 // The bytes of an entry.
 pub const ENTRY: usize = 8;
 // The letters that a word may have.
@@ -27,14 +28,15 @@ const LEAST: usize = 1;
 pub const MOST: usize = 504;
 // How wide a span may be.
 pub const WIDEST: u16 = 8;
-// What stands for place two where there is no second place.
+// What stands for place two where there is no second place, as the card and the lists for C have it; `Places` tells one place from two.
 pub const NO_PLACE: u16 = 65535;
 // How many words there are of 0, 1, 2, … letters.
 const WORDS: [u32; MOST_LENGTH + 1] = [
     1, 4, 16, 64, 256, 1024, 4096, 16384, 65536, 262144, 1048576, 4194304, 16777216,
 ];
 
-// What a card says of all its entries: its kind, the letters of a word and the number of entries.
+// What a card says of all its entries: its kind, the letters of a word and the number of entries. The kind is a number: block 0 has any byte
+// there, and who writes or calls from C gives any number, which rule 5 tests.
 #[derive(Clone, Copy)]
 pub struct Format {
     pub kind: usize,
@@ -48,6 +50,29 @@ pub struct Slot {
     pub word: u32,
     pub one: u16,
     pub two: u16,
+}
+
+// Three lists that stand for entries: their words, places one and places two, as C lends them; `card_lists` tests that they have one length.
+#[derive(Clone, Copy)]
+pub struct EntryLists<'a> {
+    pub words: &'a [u32],
+    pub ones: &'a [u16],
+    pub twos: &'a [u16],
+}
+
+impl EntryLists<'_> {
+    // Entry e, as it is stored.
+    #[tactic(auto, unfolding(crate::specs::Slot::slot_from))]
+    pub fn slot(&self, e: usize) -> Slot
+        requires { (e < length self.now.words.now) × (e < length self.now.ones.now) × (e < length self.now.twos.now) }
+        ensures { result ≡ slot_from self.now.words.now self.now.ones.now self.now.twos.now e }
+    {
+        Slot {
+            word: self.words[e],
+            one: self.ones[e],
+            two: self.twos[e],
+        }
+    }
 }
 
 // The allowed places of an entry: one place, two places, or a span from its first place to its last.
@@ -69,20 +94,14 @@ pub struct Entry {
 pub fn is_kind(kind: usize) -> bool
     ensures { result ≡ is_kind kind }
 {
-    if kind == PAIR {
-        return true;
-    }
-    kind == SPAN
+    kind == PAIR || kind == SPAN
 }
 
 // Whether x is from lo up to hi, both included.
 fn is_within(lo: usize, hi: usize, x: usize) -> bool
     ensures { result ≡ is_within lo hi x }
 {
-    if lo <= x {
-        return x <= hi;
-    }
-    false
+    (lo..=hi).contains(&x)
 }
 
 // Whether a word may have l letters.
@@ -100,6 +119,7 @@ pub fn is_count(m: usize) -> bool
 }
 
 // The slot j of a block.
+#[tactic(auto, unfolding(crate::specs::Slot::slot_at))]
 pub fn slot_at(part: &[u8], j: usize) -> Slot
     requires { entry_bytes * j + entry_bytes ≤ length part.now }
     ensures { result ≡ slot_at part.now j }
@@ -123,13 +143,13 @@ pub fn put_slot(part: &mut [u8], j: usize, s: Slot)
 }
 
 // The places that a slot's two numbers stand for on a card of this kind.
+#[tactic(auto, unfolding(crate::specs::Entry::places_of))]
 fn places_of(kind: usize, one: u16, two: u16) -> Places
     ensures { result ≡ places_of kind one two }
 {
     if kind == SPAN {
-        return Places::Span(one, two);
-    }
-    if two == NO_PLACE {
+        Places::Span(one, two)
+    } else if two == NO_PLACE {
         Places::One(one)
     } else {
         Places::Two(one, two)
@@ -137,6 +157,7 @@ fn places_of(kind: usize, one: u16, two: u16) -> Places
 }
 
 // The entry that a slot stands for on a card of this kind.
+#[tactic(auto, unfolding(crate::specs::Entry::entry_of))]
 pub fn entry_of(kind: usize, s: Slot) -> Entry
     ensures { result ≡ entry_of kind s }
 {
@@ -150,37 +171,27 @@ pub fn entry_of(kind: usize, s: Slot) -> Entry
 fn is_place(m: usize, p: u16) -> bool
     ensures { result ≡ is_place m p }
 {
-    (p as usize) < m
+    usize::from(p) < m
 }
 
 // Whether the two numbers are the places of an entry of a pair card.
+#[tactic(auto, unfolding(crate::specs::Fault::pair_holds))]
 fn pair_holds(m: usize, one: u16, two: u16) -> bool
     ensures { result ≡ pair_holds m one two }
 {
-    if is_place(m, one) {
-        if two == NO_PLACE {
-            return true;
-        }
-        if one < two {
-            return is_place(m, two);
-        }
-    }
-    false
+    is_place(m, one) && (two == NO_PLACE || one < two && is_place(m, two))
 }
 
 // Whether the two numbers are the places of an entry of a span card.
+#[tactic(auto, unfolding(crate::specs::Fault::span_holds))]
 fn span_holds(m: usize, one: u16, two: u16) -> bool
     ensures { result ≡ span_holds m one two }
 {
-    if one <= two {
-        if is_place(m, two) {
-            return two - one < WIDEST;
-        }
-    }
-    false
+    one <= two && is_place(m, two) && two - one < WIDEST
 }
 
 // Whether the two numbers are the places of an entry.
+#[tactic(auto, unfolding(crate::specs::Fault::places_hold))]
 fn places_hold(kind: usize, m: usize, one: u16, two: u16) -> bool
     ensures { result ≡ places_hold kind m one two }
 {
@@ -200,22 +211,16 @@ pub fn words_of(l: usize) -> u32
 }
 
 // Whether a slot holds as entry e of a card of this format: its word before its places.
-pub fn entry_holds(f: Format, e: usize, s: Slot) -> Held
+#[tactic(auto, using(base_answers::proofs::Laws::first_tests), unfolding(crate::specs::Fault::entry_tests))]
+pub fn entry_holds(f: Format, e: usize, s: Slot) -> Result<(), Refusal>
     requires { f.l ≤ most_length }
     ensures { says_held result ≡ first (entry_tests f e s) sound }
 {
     if words_of(f.l) <= s.word {
-        return Held::Refused(Refusal {
-            number: base_answers::WORD,
-            place: e,
-        });
-    }
-    if places_hold(f.kind, f.m, s.one, s.two) {
-        Held::Holds
+        Err(Refusal::Word(e))
+    } else if !places_hold(f.kind, f.m, s.one, s.two) {
+        Err(Refusal::Places(e))
     } else {
-        Held::Refused(Refusal {
-            number: base_answers::PLACES,
-            place: e,
-        })
+        Ok(())
     }
 }

@@ -5,7 +5,7 @@ use mathlib.Core.List.{List, [], ◌∷◌, ◌++◌, append_assoc}
 use Prim.Native.Nat.{ℕ, zero, suc, ◌+◌, ◌*◌, ◌-◌, ◌/◌, ◌%◌, ◌≤◌, ◌<◌}
 use native.Mathlib.Numerals.{add-one}
 use native.Mathlib.Omega.{arith}
-use lib.ListN.{length, get_or, take, drop, set}
+use lib.ListN.{length, get_or, take, drop}
 use lib.Seq.{take_at, drop_at}
 use Rattle.base_lists.specs.Row.{in_turn}
 use Rattle.base_lists.proofs.RowLaws.{length_turns, turns_none, turns_first, turns_more, turns_at, turns_same}
@@ -15,7 +15,8 @@ use Rattle.card_block.specs.Block.{block_bytes, block_at, index_at}
 use Rattle.card_block.specs.Sealing.{sealed}
 use Rattle.card_block.proofs.Laws.{block_in_place}
 use Rattle.card_block.proofs.ByteLaws.{length_two, two_read}
-use Rattle.base_lists.proofs.PutLaws.{put_one, put_next, put_on, put_start}
+use borrow.Rule.Slice.PartMut.{put_mid}
+use Rattle.base_lists.proofs.PutLaws.{put_part, put_on, put_start}
 use Rattle.card_block.proofs.SealingLaws.{length_sealed, sealed_own, sealed_spare}
 use Rattle.card_entries.specs.declared.Format.{Format}
 use Rattle.card_entries.specs.declared.Slot.{Slot}
@@ -122,16 +123,12 @@ module _ (f : Format) where
 
 -- as the code writes it: four bytes, m, and the seal
 module _ (l : List ℕ) (f : Format) (whole : length l ≡ block_bytes) {l₁ : List ℕ} where
-  module _ (put : l₁ ≡ put_at (two_bytes f.m) 4 (set (set (set (set l 0 the_form) 1 f.kind) 2 f.l) 3 0)) where
+  module _ (put : l₁ ≡ put_at (two_bytes f.m) 4 (put_mid 0 4 l (the_form ∷ f.kind ∷ f.l ∷ 0 ∷ []))) where
     head_put : l₁ ≡ put_at (head_bytes f) 0 l
     unfolding head_bytes
     head_put =
-        let one = put_one l 0 the_form (omega arith) in
-        let two = put_next l 0 (the_form ∷ []) {to = 1} one (omega arith) f.kind (omega arith) in
-        let three = put_next l 0 (the_form ∷ f.kind ∷ []) {to = 2} two (omega arith) f.l (omega arith) in
-        let four = put_next l 0 (the_form ∷ f.kind ∷ f.l ∷ []) {to = 3} three (omega arith) 0 (omega arith) in
-        put
-        ∙ put_on l 0 (the_form ∷ f.kind ∷ f.l ∷ 0 ∷ []) {to = 4} four (omega arith) (two_bytes f.m) (omega (arith, length_two f.m))
+        let four = the_form ∷ f.kind ∷ f.l ∷ 0 ∷ [] in
+        put ∙ put_on l 0 four {to = 4} (put_part l four 0 4 refl) (omega arith) (two_bytes f.m) (omega (arith, length_two f.m))
 
     pub head_made : {l₂ : List ℕ} → l₂ ≡ sealed (take 6 l₁) 0 → l₂ ≡ sealed (head_bytes f) 0
     head_made e =

@@ -1,13 +1,14 @@
 -- The laws of a card's layout that this crate's proofs and the crates above cite. No contract cites this file. Assumes nothing.
-use mathlib.Core.Path.{◌≡◌, refl}
+use mathlib.Core.Path.{◌≡◌, refl, sym, ap, ◌∙◌}
 use mathlib.Core.Logic.{◌⊎◌, inl, inr}
 use mathlib.Core.Bool.{Bool, true, false, ◌&&◌}
 use mathlib.Core.List.{List}
-use Prim.Native.Nat.{ℕ, ◌+◌, ◌*◌, ◌/◌, ◌≤◌, ◌<◌}
+use Prim.Native.Nat.{ℕ, ◌+◌, ◌-◌, ◌*◌, ◌/◌, ◌≤◌, ◌<◌}
 use native.Mathlib.Omega.{arith}
 use lib.ListN.{length, get_or, take, drop}
 use lib.Dec.{eqb}
 use borrow.Author.Tests.{eq-eqb, ne_eqb, eqb-true}
+use Rattle.std.proofs.lemmas.List.{drop-take}
 use Rattle.base_lists.proofs.TestLaws.{either}
 use Rattle.card_block.specs.Block.{block_bytes, index_at}
 use Rattle.base_lists.proofs.Fold.{all_turn, all_end}
@@ -25,6 +26,11 @@ module _ (l : List ℕ) (i : ℕ) (all whole : Bool) (so_far : (all && is_zeros 
 
   pub zeros_end : length l ≤ i → all ≡ whole
   zeros_end h = all_end (λ (x : ℕ). eqb x 0) is_zeros refl (λ (x : ℕ) (xs : List ℕ). refl) l i all whole so_far h
+
+-- the bytes from n up to the index
+pub part_between : (b : List ℕ) (n : ℕ) → n ≤ index_at → take (index_at - n) (drop n b) ≡ drop n (take index_at b)
+part_between b n h =
+    let whole : n + (index_at - n) ≡ index_at = omega arith in sym (drop-take n (index_at - n) b) ∙ ap (λ (i : ℕ). drop n (take i b)) whole
 
 -- ---- the form
 

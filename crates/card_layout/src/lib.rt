@@ -1,7 +1,7 @@
 // Where things stand on a card: what the reader and the writer share.
 #![tactic(auto)]
 
-ghost use Rattle.std.specs.Prelude.{◌≡◌, ◌+◌, ◌*◌, ◌/◌, ◌≤◌, ◌<◌, length, drop};
+ghost use Rattle.std.specs.Prelude.{◌≡◌, ◌+◌, ◌*◌, ◌/◌, ◌≤◌, ◌<◌, length};
 ghost use Rattle.card_block.specs.Block.{block_bytes};
 ghost use Rattle.card_block.specs.Sealing.{sealed};
 ghost use Rattle.card_layout.specs.Layout.{format_of, told_by, per_block, entry_blocks, size_of, entries_before, entries_in_block, slot_of, entry_at};
@@ -15,19 +15,20 @@ use card_entries::{Entry, Format, Slot};
 pub const THE_FORM: u8 = 1;
 // The entries of a full block.
 const PER_BLOCK: usize = 63;
-// The bytes of the longest card.
+// The bytes of the longest card. A constant's value calls no `div_ceil`.
 pub const LONGEST: usize = card_block::BLOCK
     * (1 + (card_entries::MOST + (PER_BLOCK - 1)) / PER_BLOCK);
 
 // The kind, l and m that block 0 says.
+#[tactic(auto, unfolding(crate::specs::Layout::format_of))]
 pub fn format_of(head: &[u8]) -> Format
     requires { length head.now ≡ block_bytes }
     ensures { result ≡ format_of head.now }
 {
     Format {
-        kind: head[1] as usize,
-        l: head[2] as usize,
-        m: card_block::two_at(head, 4) as usize,
+        kind: usize::from(head[1]),
+        l: usize::from(head[2]),
+        m: usize::from(card_block::two_at(head, 4)),
     }
 }
 
@@ -36,10 +37,7 @@ pub fn put_head(part: &mut [u8], f: Format)
     requires { (length part.old ≡ block_bytes) × (f.kind < 256) × (f.l < 256) × (f.m < 65536) }
     ensures { part.new ≡ sealed (head_bytes f) 0 }
 {
-    part[0] = THE_FORM;
-    part[1] = f.kind as u8;
-    part[2] = f.l as u8;
-    part[3] = 0;
+    part[..4].copy_from_slice(&[THE_FORM, f.kind as u8, f.l as u8, 0]);
     card_block::put_two(part, 4, f.m as u16);
     card_block::seal(part, 6, 0);
 }
@@ -52,7 +50,7 @@ pub fn told_by(card: &[u8]) -> Format
     format_of(card_block::part(card, 0))
 }
 
-// How many blocks m entries take.
+// How many blocks m entries take. `div_ceil` was tried: it multiplies once more, and tests/divisions allows none.
 pub fn entry_blocks(m: usize) -> usize
     requires { m ≤ most_entries }
     ensures { result ≡ entry_blocks m }
@@ -81,15 +79,7 @@ pub fn entries_in_block(m: usize, k: usize) -> usize
     requires { (1 ≤ k) × (k ≤ most_entries) }
     ensures { result ≡ entries_in_block m k }
 {
-    let before = entries_before(k);
-    if m <= before {
-        return 0;
-    }
-    if m - before < PER_BLOCK {
-        m - before
-    } else {
-        PER_BLOCK
-    }
+    PER_BLOCK.min(m.saturating_sub(entries_before(k)))
 }
 
 // The slot of entry e.
@@ -108,18 +98,13 @@ pub fn entry_at(card: &[u8], kind: usize, e: usize) -> Entry
     card_entries::entry_of(kind, slot_of(card, e))
 }
 
-// Whether all bytes of a part from `from` on are zero. Each is looked at, with no way out before the last, so that the compiler can look at many
-// at once.
-fn is_zeros(part: &[u8], from: usize) -> bool
-    requires { from ≤ length part.now }
-    ensures { result ≡ is_zeros (drop from part.now) }
+// Whether all bytes are zero. Each is looked at, with no way out before the last, so that the compiler can look at many at once.
+fn is_zeros(bytes: &[u8]) -> bool
+    ensures { result ≡ is_zeros bytes.now }
 {
-    let n = part.len();
     let mut all = true;
-    let mut i = from;
-    while i < n {
-        all = all & (part[i] == 0);
-        i += 1;
+    for x in bytes {
+        all &= *x == 0;
     }
     all
 }
@@ -129,10 +114,7 @@ pub fn head_spare(head: &[u8]) -> bool
     requires { length head.now ≡ block_bytes }
     ensures { result ≡ head_spare head.now }
 {
-    if head[3] != 0 {
-        return false;
-    }
-    is_zeros(&head[..card_block::INDEX_AT], 6)
+    head[3] == 0 && is_zeros(&head[6..card_block::INDEX_AT])
 }
 
 // Whether the bytes of a later block that must be zero are, where it has n entries.
@@ -140,5 +122,5 @@ pub fn slots_spare(part: &[u8], n: usize) -> bool
     requires { (length part.now ≡ block_bytes) × (n ≤ per_block) }
     ensures { result ≡ slots_spare part.now n }
 {
-    is_zeros(&part[..card_block::INDEX_AT], card_entries::ENTRY * n)
+    is_zeros(&part[card_entries::ENTRY * n..card_block::INDEX_AT])
 }

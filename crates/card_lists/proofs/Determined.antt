@@ -5,17 +5,10 @@ use contract.Lifetimes.{Lfts}
 use denote.Triple.Clauses.{AtExit}
 use borrow.Fn.Kinds.{Dens, res_t, ended_of}
 use Rattle.base_answers.proofs.Laws.{held_one}
-use Rattle.card_lists.proofs.slot_from.Kinds as slot_from_lem
-use Rattle.card_lists.proofs.slot_from.Reads as slot_from_reads
 use Rattle.card_lists.proofs.lists_hold.Kinds as lists_hold
 use Rattle.card_lists.proofs.lists_hold.Reads as lists_hold_reads
 
 module _ (κs : Lfts 3) where
-  pub slot_from_one : (a : Dens κs slot_from_lem.ps) (r r' : (res_t slot_from_lem.r κs).Denot)
-      (e e' : AtExit (ended_of 3 slot_from_lem.ps slot_from_lem.r) κs)
-      → slot_from_reads.Post κs a r e → slot_from_reads.Post κs a r' e' → r ≡ r'
-  slot_from_one a r r' e e' p q = p ∙ sym q
-
   pub lists_hold_one : (a : Dens κs lists_hold.ps) (r r' : (res_t lists_hold.r κs).Denot)
       (e e' : AtExit (ended_of 3 lists_hold.ps lists_hold.r) κs)
       → lists_hold_reads.Post κs a r e → lists_hold_reads.Post κs a r' e' → r ≡ r'

@@ -7,7 +7,7 @@ use Prim.Native.Nat.{ℕ, ◌+◌, ◌^◌, ◌<◌}
 use native.Mathlib.Omega.{arith}
 use lib.ListN.{length}
 use lib.Dec.{eqb}
-use borrow.Author.Tests.{eq-eqb, ne_eqb, eqb-true}
+use borrow.Author.Tests.{eq-eqb, eqb-true}
 use Rattle.base_answers.specs.Numbers.{Kind, WordLength, Lists, Count, Word, Places}
 use Rattle.base_answers.specs.Answer.{given, refused, sound, first}
 use Rattle.base_lists.specs.Row.{in_turn}
@@ -25,12 +25,6 @@ use Rattle.card_lists.specs.Lists.{same_length, lists_tests}
 -- ---- three lengths
 
 module _ (words ones twos : List ℕ) where
-  pub lengths_differ : (length words ≡ length ones → ⊥) → false ≡ same_length words ones twos
-  lengths_differ n = rw (ne_eqb (length words) (length ones) n)
-
-  pub lengths_if : length words ≡ length ones → eqb (length words) (length twos) ≡ same_length words ones twos
-  lengths_if e = rw (eq-eqb (length words) (length ones) e)
-
   -- what holds where they are the same
   pub lengths_same : same_length words ones twos ≡ true → (length words ≡ length ones) × (length words ≡ length twos)
   lengths_same h =

@@ -10,75 +10,54 @@ ghost use Rattle.card_entries.specs.Fault.{most_length, entry_tests};
 ghost use Rattle.card_entries.specs.Bounds.{most_entries};
 ghost use Rattle.card_lists.specs.Lists.{same_length, lists_tests};
 
-use base_answers::{Held, Refusal};
-use card_entries::{Format, Slot};
-
-// Entry e of the lists, as it is stored.
-pub fn slot_from(words: &[u32], ones: &[u16], twos: &[u16], e: usize) -> Slot
-    requires { (e < length words.now) × (e < length ones.now) × (e < length twos.now) }
-    ensures { result ≡ slot_from words.now ones.now twos.now e }
-{
-    Slot {
-        word: words[e],
-        one: ones[e],
-        two: twos[e],
-    }
-}
+use base_answers::Refusal;
+use card_entries::{EntryLists, Format};
 
 // Whether the lists have one length.
-fn same_length(words: &[u32], ones: &[u16], twos: &[u16]) -> bool
-    ensures { result ≡ same_length words.now ones.now twos.now }
+fn same_length(lists: &EntryLists) -> bool
+    ensures { result ≡ same_length lists.now.words.now lists.now.ones.now lists.now.twos.now }
 {
-    if words.len() == ones.len() {
-        return words.len() == twos.len();
-    }
-    false
+    lists.words.len() == lists.ones.len() && lists.words.len() == lists.twos.len()
 }
 
 // Each entry of the lists in turn.
-fn entries_hold(f: Format, words: &[u32], ones: &[u16], twos: &[u16]) -> Held
-    requires { (f.l ≤ most_length) × (f.m ≤ length words.now) × (f.m ≤ length ones.now) × (f.m ≤ length twos.now) }
+fn entries_hold(f: Format, lists: &EntryLists) -> Result<(), Refusal>
+    requires short { f.l ≤ most_length }
+    requires there { (f.m ≤ length lists.now.words.now) × (f.m ≤ length lists.now.ones.now) × (f.m ≤ length lists.now.twos.now) }
     ensures { says_held result
-        ≡ first (in_turn (λ e. entry_tests f e (slot_from words.now ones.now twos.now e)) 0 f.m) sound }
+        ≡ first
+        (in_turn (λ e. entry_tests f e (slot_from lists.now.words.now lists.now.ones.now lists.now.twos.now e)) 0 f.m)
+        sound }
 {
-    let mut e = 0;
-    while e < f.m {
-        if let Held::Refused(r) = card_entries::entry_holds(f, e, slot_from(words, ones, twos, e)) {
-            return Held::Refused(r);
-        }
-        e += 1;
+    for e in 0..f.m {
+        card_entries::entry_holds(f, e, lists.slot(e))?;
     }
-    Held::Holds
+    Ok(())
 }
 
-// The kind, the letters of a word, and the lists.
-pub fn lists_hold(kind: usize, l: usize, words: &[u32], ones: &[u16], twos: &[u16]) -> Held
+// The kind, the letters of a word, and the lists, which are parameters of their own, as C lends them.
+pub fn lists_hold(
+    kind: usize,
+    l: usize,
+    words: &[u32],
+    ones: &[u16],
+    twos: &[u16],
+) -> Result<(), Refusal>
     ensures { says_held result ≡ first (lists_tests most_entries kind l words.now ones.now twos.now) sound }
 {
     if !card_entries::is_kind(kind) {
-        return Held::Refused(Refusal {
-            number: base_answers::KIND,
-            place: 0,
-        });
+        return Err(Refusal::Kind);
     }
     if !card_entries::is_length(l) {
-        return Held::Refused(Refusal {
-            number: base_answers::WORD_LENGTH,
-            place: 0,
-        });
+        return Err(Refusal::WordLength);
     }
-    if !same_length(words, ones, twos) {
-        return Held::Refused(Refusal {
-            number: base_answers::LISTS,
-            place: 0,
-        });
+    let lists = EntryLists { words, ones, twos };
+    if !same_length(&lists) {
+        return Err(Refusal::Lists);
     }
     let m = words.len();
     if !card_entries::is_count(m) {
-        return Held::Refused(Refusal {
-            number: base_answers::COUNT,
-            place: 0,
-        });
+        return Err(Refusal::Count);
     }
-    entries_hold(Format { kind, l, m }, words, ones, twos)
+    entries_hold(Format { kind, l, m }, &lists)
 }

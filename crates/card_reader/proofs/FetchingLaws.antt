@@ -6,15 +6,15 @@ use lib.ListN.{length}
 use borrow.Author.Tests.{lt-ltb, le-ltb}
 use Rattle.base_answers.specs.declared.Refusal.{Refusal}
 use Rattle.base_answers.specs.Numbers.{Absent}
-use Rattle.base_answers.specs.Answer.{given, refused, sound, first}
+use Rattle.base_answers.specs.Answer.{given, refused, sound, first, number_of, place_of, says}
 use Rattle.base_answers.proofs.Laws.{first_fail, first_last, first_holds, first_refused, first_both, first_value, first_given_any, first_refused_any}
+use Rattle.base_answers.proofs.Laws.{said_given, said_refused, told_holds, told_refused}
+use Rattle.std.specs.Prelude.{Result, Ok, Err}
 use Rattle.card_block.specs.Block.{block_bytes}
 use Rattle.card_entries.specs.declared.Format.{Format}
-use Rattle.card_reader.specs.declared.Admitted.{Admitted}
-use Rattle.card_reader.specs.declared.Admitted.TheVariants.{Card, Refused}
 use Rattle.card_layout.specs.Layout.{told_by, per_block, size_of, entry_at}
 use Rattle.card_reader.specs.Reading.{head_tests, reading_order}
-use Rattle.card_reader.specs.Fetching.{admission, says_admitted, entry_fetch, more, end, next_at, stepping}
+use Rattle.card_reader.specs.Fetching.{admission, entry_fetch, more, end, next_at, stepping}
 use Rattle.card_layout.proofs.Laws.{entry_there}
 use Rattle.card_reader.proofs.ReadingLaws.{HeadHolds, head_has, size_had}
 
@@ -53,13 +53,13 @@ module _ (limit : ℕ) (card : List ℕ) where
       let had = order_admits order in
       record { told = sym (first_value (reading_order limit card) (told_by card) f e); order = order; head = had.head; size = had.size }
 
--- what an answer of `Admitted` says
-module _ (limit : ℕ) (card : List ℕ) {r : Admitted} (e : says_admitted r ≡ admission limit card) where
-  pub told_admitted : {f : Format} → r ≡ Card f → Admits limit card f
-  told_admitted q = admission_admits limit card (sym e ∙ ap says_admitted q)
+-- what a result says of the card
+module _ (limit : ℕ) (card : List ℕ) {r : Result Format Refusal} (e : says r ≡ admission limit card) where
+  pub told_admitted : {f : Format} → r ≡ Ok f → Admits limit card f
+  told_admitted q = admission_admits limit card (said_given (λ a. a) e q)
 
-  pub told_not_admitted : {n : Refusal} → r ≡ Refused n → admission limit card ≡ refused n.number n.place
-  told_not_admitted q = sym e ∙ ap says_admitted q
+  pub told_not_admitted : {n : Refusal} → r ≡ Err n → admission limit card ≡ refused (number_of n) (place_of n)
+  told_not_admitted = said_refused (λ a. a) e
 
 -- ---- an entry and a step
 
@@ -94,3 +94,12 @@ module _ (limit : ℕ) (card : List ℕ) where
     unfolding stepping next_at
     step_end h =
         first_given_any (reading_order limit card) sound sound (next_at card i) has.order ∙ rw (le-ltb i (told_by card).m (rw has.told at h))
+
+-- ---- what the check applies by itself
+
+-- to an admission, to an entry's fetch, and to a step
+pub ruleset admissions = (told_holds, told_refused, order_admits, admission_given, admission_refused)
+
+pub ruleset fetches = (told_admitted, told_not_admitted, entry_on_card, entry_found, entry_absent, entry_refused)
+
+pub ruleset steps = (told_admitted, told_not_admitted, entry_on_card, step_more, step_end, step_refused)

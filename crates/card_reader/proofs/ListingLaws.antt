@@ -9,7 +9,6 @@ use lib.ListN.{length, take, drop, set}
 use lib.Seq.{drop-cons, set_at, append_snoc, take_at}
 use lib.Dec.{leb}
 use borrow.Author.Tests.{le-leb, lt-leb, leb-true}
-use Rattle.base_answers.specs.declared.Refusal.{Refusal}
 use Rattle.base_answers.specs.Numbers.{Room}
 use Rattle.base_answers.specs.Answer.{Answer, given, refused, Sound, sound, first}
 use Rattle.base_lists.specs.Row.{row}
@@ -19,13 +18,11 @@ use Rattle.base_lists.proofs.RowLaws.{length_row, row_none, row_more}
 use Rattle.base_lists.proofs.TestLaws.{both}
 use Rattle.card_block.specs.Bytes.{AreBytes}
 use Rattle.card_entries.specs.declared.Format.{Format}
-use Rattle.card_reader.specs.declared.Admitted.{Admitted}
-use Rattle.card_reader.specs.declared.Admitted.TheVariants.{Card, Refused}
 use Rattle.card_layout.specs.Layout.{told_by, slot_of}
 use Rattle.card_reader.specs.Reading.{reading_order}
-use Rattle.card_reader.specs.Fetching.{admission, says_admitted}
+use Rattle.card_reader.specs.Fetching.{admission}
 use Rattle.card_reader.specs.Listing.{has_room, list_tests, listing, filled, Listed}
-use Rattle.card_reader.proofs.FetchingLaws.{Admits, order_admits, admission_given, admission_refused, order_refused, admission_admits}
+use Rattle.card_reader.proofs.FetchingLaws.{Admits, order_admits, admission_given, admission_refused, order_refused, admission_admits, told_admitted, told_not_admitted}
 
 -- ---- a list that is filled from the front
 
@@ -59,16 +56,6 @@ module _ (number_of : ℕ → ℕ) (before : List ℕ) where
 
 -- ---- room
 
-module _ (m words ones twos : ℕ) where
-  pub words_short : words < m → false ≡ has_room m words ones twos
-  words_short h = rw (lt-leb m words h)
-
-  pub ones_short : m ≤ words → ones < m → false ≡ has_room m words ones twos
-  ones_short g h = rw (le-leb m words g, lt-leb m ones h)
-
-  pub room_if : m ≤ words → m ≤ ones → leb m twos ≡ has_room m words ones twos
-  room_if g h = rw (le-leb m words g, le-leb m ones h)
-
 -- what room there is where the test holds
 pub record Fits (m words ones twos : ℕ) : Type 0 where
   pub in_words : m ≤ words
@@ -93,17 +80,17 @@ module _ (limit : ℕ) (card words ones twos : List ℕ) where
   listing_refused e = first_refused _ _ (reading_order limit card) (order_refused limit card e)
 
   -- nothing is written where the answer is a refusal
-  untouched : {n : Refusal} → AreBytes card → listing limit card words ones twos ≡ refused n.number n.place
-      → Listed limit card words ones twos (Refused n) words ones twos
+  untouched : {n p : ℕ} → AreBytes card → listing limit card words ones twos ≡ refused n p
+      → Listed limit card words ones twos (refused n p) words ones twos
   untouched bytes e = record { of_bytes = bytes; answer = sym e; in_words = rw e; in_ones = rw e; in_twos = rw e }
 
-  pub listed_refused : {n : Refusal} → AreBytes card → admission limit card ≡ refused n.number n.place
-      → Listed limit card words ones twos (Refused n) words ones twos
+  pub listed_refused : {n p : ℕ} → AreBytes card → admission limit card ≡ refused n p
+      → Listed limit card words ones twos (refused n p) words ones twos
   listed_refused bytes e = untouched bytes (listing_refused e)
 
   module _ {f : Format} (bytes : AreBytes card) (has : Admits limit card f) where
     pub listed_no_room : has_room f.m (length words) (length ones) (length twos) ≡ false
-        → Listed limit card words ones twos (Refused (record { number = Room; place = 0 })) words ones twos
+        → Listed limit card words ones twos (refused Room 0) words ones twos
     unfolding listing list_tests
     listed_no_room h = untouched bytes (first_holds _ _ _ has.order ∙ first_fail _ _ _ _ _ (rw has.told at h))
 
@@ -115,7 +102,7 @@ module _ (limit : ℕ) (card words ones twos : List ℕ) where
         → words' ≡ filled (λ e. (slot_of card e).word) f.m words
         → ones' ≡ filled (λ e. (slot_of card e).one) f.m ones
         → twos' ≡ filled (λ e. (slot_of card e).two) f.m twos
-        → Listed limit card words ones twos (Card f) words' ones' twos'
+        → Listed limit card words ones twos (given f) words' ones' twos'
     listed_filled h w o t =
         let e = listing_given h in
         record { of_bytes = bytes; answer = sym e; in_words = rw e w; in_ones = rw e o; in_twos = rw e t }
@@ -128,15 +115,15 @@ unfolding filled
 filled_start number_of m before = take_at (row number_of 0 m) (drop m before) m (length_row number_of 0 m)
 
 -- a card that is admitted is listed where there is room
-pub listed_given : {limit : ℕ} {card words ones twos words' ones' twos' : List ℕ} {r : Admitted} {f : Format}
+pub listed_given : {limit : ℕ} {card words ones twos words' ones' twos' : List ℕ} {r : Answer Format} {f : Format}
     → Listed limit card words ones twos r words' ones' twos' → admission limit card ≡ given f
-    → Fits f.m (length words) (length ones) (length twos) → says_admitted r ≡ given f
+    → Fits f.m (length words) (length ones) (length twos) → r ≡ given f
 listed_given {limit} {card} {words} {ones} {twos} {f = f} did e has =
     let room = fits_room f.m (length words) (length ones) (length twos) has in
     did.answer ∙ listing_given limit card words ones twos did.of_bytes (admission_admits limit card e) room
 
-module _ {limit : ℕ} {card words ones twos words' ones' twos' : List ℕ} {r : Admitted} {f : Format}
-    (did : Listed limit card words ones twos r words' ones' twos') (said : says_admitted r ≡ given f) where
+module _ {limit : ℕ} {card words ones twos words' ones' twos' : List ℕ} {r : Answer Format} {f : Format}
+    (did : Listed limit card words ones twos r words' ones' twos') (said : r ≡ given f) where
   listing_said : listing limit card words ones twos ≡ given f
   listing_said = sym did.answer ∙ said
 
@@ -165,15 +152,15 @@ module _ {limit : ℕ} {card words ones twos words' ones' twos' : List ℕ} {r :
   listed_twos = ap (take f.m) (rw listing_said at did.in_twos) ∙ filled_start (λ e. (slot_of card e).two) f.m twos
 
 -- where there is room for as many entries as a card may have, a refusal is the reader's
-pub listed_not_admitted : {limit : ℕ} {card words ones twos words' ones' twos' : List ℕ} {n : Refusal}
-    → Listed limit card words ones twos (Refused n) words' ones' twos'
+pub listed_not_admitted : {limit : ℕ} {card words ones twos words' ones' twos' : List ℕ} {n p : ℕ}
+    → Listed limit card words ones twos (refused n p) words' ones' twos'
     → limit ≤ length words → limit ≤ length ones → limit ≤ length twos
-    → first (reading_order limit card) sound ≡ refused n.number n.place
-listed_not_admitted {limit} {card} {words} {ones} {twos} {n = n} did a b c = go (first (reading_order limit card) sound) refl
+    → first (reading_order limit card) sound ≡ refused n p
+listed_not_admitted {limit} {card} {words} {ones} {twos} {n = n} {p = p} did a b c = go (first (reading_order limit card) sound) refl
   where
     go : (t : Answer Sound) → first (reading_order limit card) sound ≡ t
-        → first (reading_order limit card) sound ≡ refused n.number n.place
-    go (refused k p) e = e ∙ refusal_same (sym (listing_refused limit card words ones twos (admission_refused limit card e)) ∙ sym did.answer)
+        → first (reading_order limit card) sound ≡ refused n p
+    go (refused k q) e = e ∙ refusal_same (sym (listing_refused limit card words ones twos (admission_refused limit card e)) ∙ sym did.answer)
     go (given sound) e =
         let had = order_admits e in
         let fits : Fits (told_by card).m (length words) (length ones) (length twos) =
@@ -183,3 +170,10 @@ listed_not_admitted {limit} {card} {words} {ones} {twos} {n = n} did a b c = go 
           in_twos = omega (arith, had.head.most, c);
         } in
         absurd (given_not_refused (sym (listed_given did (admission_given limit card e) fits)))
+
+-- ---- what the check applies by itself
+
+-- to a list that is filled, and to an admission into lists
+pub ruleset fills = (filled_none, filled_turn, filled_whole)
+
+pub ruleset listings = (told_admitted, told_not_admitted, room_fits, listed_refused, listed_no_room, listed_filled)

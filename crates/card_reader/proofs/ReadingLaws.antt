@@ -7,12 +7,13 @@ use Prim.Native.Nat.{ℕ, ◌+◌, ◌*◌, ◌≤◌, ◌<◌}
 use native.Mathlib.Omega.{arith}
 use lib.ListN.{length}
 use borrow.Author.Tests.{le-leb, lt-leb, leb-true, eqb-true, eq-eqb, ne_eqb}
-use Rattle.base_answers.specs.Numbers.{Short, Form, Kind, WordLength, Count, Spare, Size}
+use Rattle.base_answers.specs.Numbers.{Short, Spare, Size}
 use Rattle.base_answers.specs.Answer.{given, refused, sound, test, first}
 use Rattle.base_lists.specs.Row.{in_turn}
 use Rattle.base_answers.proofs.Laws.{first_pass, first_fail, first_last, first_passed, first_holds, first_refused, first_both}
+use Rattle.base_answers.proofs.Laws.{turn_holds, turn_refused, turns_end, told_holds, told_refused}
 use Rattle.card_block.specs.Block.{block_bytes, block_at, block_tests, fetch_tests}
-use Rattle.card_block.proofs.Laws.{block_refused, block_held}
+use Rattle.card_block.proofs.Laws.{block_refused, block_held, part_none, part_holds, part_block, part_length}
 use Rattle.card_entries.specs.declared.Format.{Format}
 use Rattle.card_entries.specs.Fault.{least_length, most_length}
 use Rattle.card_entries.proofs.Laws.{within_both}
@@ -23,44 +24,15 @@ use Rattle.card_reader.specs.Reading.{field_tests, head_tests, slots_tests, late
 -- ---- the fields of block 0
 
 module _ (limit : ℕ) (b : List ℕ) where
-  pub form_wrong : (form_of b ≡ the_form → ⊥) → first (field_tests limit b) sound ≡ refused Form 0
+  pub fields_sound : form_of b ≡ the_form → is_kind (format_of b).kind ≡ true → is_within least_length most_length (format_of b).l ≡ true
+      → is_within least_entries limit (format_of b).m ≡ true → head_spare b ≡ true → first (field_tests limit b) sound ≡ given sound
   unfolding field_tests
-  form_wrong n = first_fail _ _ _ _ _ (ne_eqb _ _ n)
-
-  module _ (form : form_of b ≡ the_form) where
-    pub kind_wrong : is_kind (format_of b).kind ≡ false → first (field_tests limit b) sound ≡ refused Kind 0
-    unfolding field_tests
-    kind_wrong h = first_pass _ _ _ _ _ (eq-eqb _ _ form) ∙ first_fail _ _ _ _ _ h
-
-    module _ (kind : is_kind (format_of b).kind ≡ true) where
-      pub length_wrong : is_within least_length most_length (format_of b).l ≡ false → first (field_tests limit b) sound ≡ refused WordLength 0
-      unfolding field_tests
-      length_wrong h = first_pass _ _ _ _ _ (eq-eqb _ _ form) ∙ first_pass _ _ _ _ _ kind ∙ first_fail _ _ _ _ _ h
-
-      module _ (letters : is_within least_length most_length (format_of b).l ≡ true) where
-        pub count_wrong : is_within least_entries limit (format_of b).m ≡ false → first (field_tests limit b) sound ≡ refused Count 0
-        unfolding field_tests
-        count_wrong h =
-            first_pass _ _ _ _ _ (eq-eqb _ _ form)
-            ∙ first_pass _ _ _ _ _ kind
-            ∙ first_pass _ _ _ _ _ letters
-            ∙ first_fail _ _ _ _ _ h
-
-        module _ (count : is_within least_entries limit (format_of b).m ≡ true) where
-          -- all but the spare bytes are right
-          fields_right : first (field_tests limit b) sound ≡ first (test (head_spare b) Spare 0 ∷ []) sound
-          unfolding field_tests
-          fields_right =
-              first_pass _ _ _ _ _ (eq-eqb _ _ form)
-              ∙ first_pass _ _ _ _ _ kind
-              ∙ first_pass _ _ _ _ _ letters
-              ∙ first_pass _ _ _ _ _ count
-
-          pub not_spare : head_spare b ≡ false → first (field_tests limit b) sound ≡ refused Spare 0
-          not_spare h = fields_right ∙ first_fail _ _ _ _ _ h
-
-          pub fields_sound : head_spare b ≡ true → first (field_tests limit b) sound ≡ given sound
-          fields_sound h = fields_right ∙ first_last _ _ _ _ h
+  fields_sound form kind letters count spare =
+      first_pass _ _ _ _ _ (eq-eqb _ _ form)
+      ∙ first_pass _ _ _ _ _ kind
+      ∙ first_pass _ _ _ _ _ letters
+      ∙ first_pass _ _ _ _ _ count
+      ∙ first_last _ _ _ _ spare
 
 -- ---- 1, and block 0
 
@@ -174,3 +146,18 @@ head_has limit card e =
 pub size_had : (limit : ℕ) (card : List ℕ) → first (reading_order limit card) sound ≡ given sound → length card ≡ size_of (told_by card).m
 unfolding reading_order
 size_had limit card e = eqb-true _ _ (first_passed _ _ _ _ _ _ (first_both _ _ (head_tests limit card) _ e).1).0
+
+-- ---- what the check applies by itself
+
+-- to tests in turn
+pub ruleset turns = (turn_holds, turn_refused, turns_end, told_holds, told_refused)
+
+-- to the part of a block that is fetched
+pub ruleset parts = (part_none, part_holds, part_block, part_length)
+
+-- to block 0, to a later block, and to the whole order
+pub ruleset heads = (parts, too_short, head_refused, head_held)
+
+pub ruleset laters = (parts, told_holds, told_refused, slots_same, spare_same, later_refused, slot_refused, later_sound, later_not_spare)
+
+pub ruleset cards = (told_holds, told_refused, head_has, reading_stops, size_wrong, reading_goes_on)

@@ -1,16 +1,12 @@
 -- What admitting a card, fetching an entry and a step of the reading head answer (01, "What can come back" and "The card, block by block"),
--- and what the steps list. Each enum of an answer has a definition that gives its cases as the scope's numbers and values. Assumes nothing.
-use Rattle.std.specs.Prelude.{◌≡◌, ℕ, ◌+◌, cond, List, [], ◌∷◌, ◌++◌, ltb}
+-- and what the steps list. Assumes nothing.
+use Rattle.std.specs.Prelude.{◌≡◌, ℕ, ◌+◌, cond, List, [], ◌∷◌, ◌++◌, ltb, Option, Some, None, Result}
 use Rattle.base_answers.specs.Numbers.{Absent}
-use Rattle.base_answers.specs.Answer.{Answer, given, refused, test, first}
+use Rattle.base_answers.specs.Answer.{Answer, given, test, first, says_as}
 use Rattle.card_entries.specs.declared.Format.{Format}
 use Rattle.card_entries.specs.declared.Entry.{Entry}
-use Rattle.card_reader.specs.declared.Admitted.{Admitted}
-use Rattle.card_reader.specs.declared.Admitted.TheVariants.{Card, Refused as NotAdmitted}
-use Rattle.card_reader.specs.declared.EntryFetch.{EntryFetch}
-use Rattle.card_reader.specs.declared.EntryFetch.TheVariants.{Found, Refused as NotFound}
-use Rattle.card_reader.specs.declared.Stepped.{Stepped}
-use Rattle.card_reader.specs.declared.Stepped.TheVariants.{More, End, Refused as NotStepped}
+use Rattle.base_answers.specs.declared.Refusal.{Refusal}
+use Rattle.card_reader.specs.declared.Head.{Head}
 use Rattle.card_layout.specs.Layout.{told_by, entry_at}
 use Rattle.card_reader.specs.Reading.{reading_order}
 
@@ -18,17 +14,9 @@ use Rattle.card_reader.specs.Reading.{reading_order}
 unfoldable pub admission : ℕ → List ℕ → Answer Format
 admission limit card = first (reading_order limit card) (told_by card)
 
-abbrev pub says_admitted : Admitted → Answer Format
-says_admitted (Card f) = given f
-says_admitted (NotAdmitted r) = refused r.number r.place
-
 -- "Fetching an entry admits the card first, then tests 14."
 unfoldable pub entry_fetch : ℕ → List ℕ → ℕ → Answer Entry
 entry_fetch limit card i = first (reading_order limit card ++ (test (ltb i (told_by card).m) Absent 0 ∷ [])) (entry_at card i)
-
-abbrev pub says_fetched : EntryFetch → Answer Entry
-says_fetched (Found e) = given e
-says_fetched (NotFound r) = refused r.number r.place
 
 -- "hands back the entry with the head moved one on, or says the end is reached"
 pub data Next : Type 0 where
@@ -43,10 +31,12 @@ next_at card at = cond (ltb at (told_by card).m) (more (entry_at card at) (at + 
 unfoldable pub stepping : ℕ → List ℕ → ℕ → Answer Next
 stepping limit card at = first (reading_order limit card) (next_at card at)
 
-abbrev pub says_stepped : Stepped → Answer Next
-says_stepped (More e h) = given (more e h.at)
-says_stepped End = given end
-says_stepped (NotStepped r) = refused r.number r.place
+abbrev pub next_of : Option (Entry × Head) → Next
+next_of (Some (e, h)) = more e h.at
+next_of None = end
+
+abbrev pub says_stepped : Result (Option (Entry × Head)) Refusal → Answer Next
+says_stepped = says_as next_of
 
 -- from the head `at` the steps give these entries, one after the other, and then the end
 pub data Lists (limit : ℕ) (card : List ℕ) : ℕ → List Entry → Type 0 where

@@ -6,10 +6,8 @@ use Rattle.base_answers.specs.Answer.{Answer, given, refused, Test, test, first}
 use Rattle.base_lists.specs.Row.{row}
 use Rattle.card_block.specs.Bytes.{AreBytes}
 use Rattle.card_entries.specs.declared.Format.{Format}
-use Rattle.card_reader.specs.declared.Admitted.{Admitted}
 use Rattle.card_layout.specs.Layout.{told_by, slot_of}
 use Rattle.card_reader.specs.Reading.{reading_order}
-use Rattle.card_reader.specs.Fetching.{says_admitted}
 
 -- lists of these three lengths have room for m entries
 abbrev pub has_room : ℕ → ℕ → ℕ → ℕ → Bool
@@ -32,9 +30,9 @@ listed number_of before (given f) = filled number_of f.m before
 listed number_of before (refused n p) = before
 
 -- the answer, and every slot of each list afterwards; and that each number of the card is a byte, as each number of a lent card is
-pub record Listed (limit : ℕ) (card words ones twos : List ℕ) (r : Admitted) (words' ones' twos' : List ℕ) : Type 0 where
+pub record Listed (limit : ℕ) (card words ones twos : List ℕ) (r : Answer Format) (words' ones' twos' : List ℕ) : Type 0 where
   pub of_bytes : AreBytes card
-  pub answer : says_admitted r ≡ listing limit card words ones twos
+  pub answer : r ≡ listing limit card words ones twos
   pub in_words : words' ≡ listed (λ e. (slot_of card e).word) words (listing limit card words ones twos)
   pub in_ones : ones' ≡ listed (λ e. (slot_of card e).one) ones (listing limit card words ones twos)
   pub in_twos : twos' ≡ listed (λ e. (slot_of card e).two) twos (listing limit card words ones twos)

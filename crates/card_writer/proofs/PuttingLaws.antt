@@ -68,17 +68,17 @@ later_made before slots m k {e} {n} {part} ee en put made =
 
 -- ---- blocks
 
--- the blocks before block k stand in the output, and `last` is the last
-pub record Blocked (before : List ℕ) (f : Format) (slots : ℕ → Slot) (last k : ℕ) (out : List ℕ) : Type 0 where
+-- the blocks before block k stand in the output
+pub record Blocked (before : List ℕ) (f : Format) (slots : ℕ → Slot) (k : ℕ) (out : List ℕ) : Type 0 where
   pub begun : 1 ≤ k
-  pub within : k ≤ last + 1
-  pub size : length before ≡ block_bytes * (last + 1)
+  pub within : k ≤ entry_blocks f.m + 1
+  pub size : length before ≡ block_bytes * (entry_blocks f.m + 1)
   pub stands : out ≡ put_at (blocks_of f slots k) 0 before
 
-module _ (before : List ℕ) (f : Format) (slots : ℕ → Slot) (last : ℕ) where
+module _ (before : List ℕ) (f : Format) (slots : ℕ → Slot) where
   -- block 0 stands, and the loop begins
-  pub blocked_one : (head rest : List ℕ) → before ≡ head ++ rest → length before ≡ block_bytes * (last + 1) → head ≡ sealed (head_bytes f) 0
-      → Blocked before f slots last 1 before
+  pub blocked_one : (head rest : List ℕ) → before ≡ head ++ rest → length before ≡ block_bytes * (entry_blocks f.m + 1) → head ≡ sealed (head_bytes f) 0
+      → Blocked before f slots 1 before
   blocked_one head rest split size e =
       let first : head ≡ blocks_of f slots 1 = e ∙ sym (blocks_one f slots) in
       let again : drop (length head) before ≡ rest = ap (drop (length head)) split ∙ drop_at head rest (length head) refl in
@@ -93,15 +93,15 @@ module _ (before : List ℕ) (f : Format) (slots : ℕ → Slot) (last : ℕ) wh
             ∙ sym (put_start before (blocks_of f slots 1));
       }
 
-  module _ {k : ℕ} {out : List ℕ} (so_far : Blocked before f slots last k out) where
+  module _ {k : ℕ} {out : List ℕ} (so_far : Blocked before f slots k out) where
     pub blocked_length : length out ≡ length before
     blocked_length =
         rw so_far.stands
         (put_length before (blocks_of f slots k) 0 (omega (arith, length_blocks f slots k, so_far.within, so_far.size)))
 
     -- block k, as the part that was lent for it comes back
-    pub blocked_turn : {block : List ℕ} → k ≤ last → block ≡ sealed (slots_bytes slots (entries_before k) (entries_in_block f.m k)) k
-        → Blocked before f slots last (k + 1) (put_mid (block_bytes * k) (block_bytes * k + block_bytes - block_bytes * k) out block)
+    pub blocked_turn : {block : List ℕ} → k ≤ entry_blocks f.m → block ≡ sealed (slots_bytes slots (entries_before k) (entries_in_block f.m k)) k
+        → Blocked before f slots (k + 1) (put_mid (block_bytes * k) (block_bytes * k + block_bytes - block_bytes * k) out block)
     blocked_turn {block} h made =
         let n : ℕ = block_bytes * k + block_bytes - block_bytes * k in
         let blocks = blocks_of f slots k in
@@ -119,8 +119,8 @@ module _ (before : List ℕ) (f : Format) (slots : ℕ → Slot) (last : ℕ) wh
               ∙ ap (λ (xs : List ℕ). put_at xs 0 before) same;
         }
 
-    pub blocked_all : last ≡ entry_blocks f.m → last < k → out ≡ card_of f slots
-    blocked_all e h =
+    pub blocked_all : entry_blocks f.m < k → out ≡ card_of f slots
+    blocked_all h =
         let all : k ≡ 1 + entry_blocks f.m = omega (arith, so_far.within) in
         so_far.stands
         ∙ put_whole before (blocks_of f slots k) (omega (arith, length_blocks f slots k, so_far.size))

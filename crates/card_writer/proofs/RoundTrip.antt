@@ -14,7 +14,7 @@ use native.Mathlib.Omega.{arith}
 use lib.ListN.{length, take, drop}
 use lib.Seq.{take_at}
 use Rattle.base_answers.specs.Numbers.{Room}
-use Rattle.base_answers.specs.Answer.{given, refused}
+use Rattle.base_answers.specs.Answer.{Answer, given, refused}
 use Rattle.base_lists.specs.Row.{row}
 use Rattle.base_lists.proofs.RowLaws.{row_same}
 use Rattle.card_entries.specs.declared.Format.{Format}
@@ -26,24 +26,22 @@ use Rattle.card_layout.specs.Layout.{size_of, slot_of, entry_at}
 use Rattle.card_layout.specs.Card.{card_of}
 use Rattle.card_layout.proofs.CardLaws.{length_card}
 use Rattle.card_layout.proofs.LaidLaws.{card_told}
-use Rattle.card_reader.specs.declared.Admitted.{Admitted}
-use Rattle.card_reader.specs.Fetching.{admission, says_admitted, entry_fetch, Lists}
+use Rattle.card_reader.specs.Fetching.{admission, entry_fetch, Lists}
 use Rattle.card_reader.specs.Listing.{has_room, Listed}
 use Rattle.card_reader.proofs.FetchingLaws.{admission_given, admission_admits, entry_found}
 use Rattle.card_reader.proofs.ListingLaws.{room_fits, listed_given, listed_admitted, listed_words, listed_ones, listed_twos}
 use Rattle.card_reader.proofs.Steps.{lists_all}
 use Rattle.card_entries.specs.Hold.{format_for, ListsHold}
 use Rattle.card_reader.proofs.AdmittedLaws.{its_words, its_ones, its_twos, length_its, admitted_size, its_hold}
-use Rattle.card_writer.specs.declared.Written.{Written}
-use Rattle.card_writer.specs.Writing.{says_written, Writes}
+use Rattle.card_writer.specs.Writing.{Writes}
 use Rattle.card_writer.specs.GivesBack.{GivesBack}
 use Rattle.card_writer.proofs.WritingLaws.{wrote_accepted, wrote_room, wrote_size, wrote_bytes, wrote_card, wrote_nothing}
 use Rattle.card_writer.proofs.ReadBackLaws.{accepted_order, written_entry_is, written_numbers}
 use Rattle.card_writer.proofs.AgainLaws.{again_card}
 
 -- the card that the writer made, read
-module _ {limit kind l : ℕ} {words ones twos before after : List ℕ} {r : Written} {n : ℕ}
-    (did : Writes limit kind l words ones twos before r after) (said : says_written r ≡ given n) where
+module _ {limit kind l : ℕ} {words ones twos before after : List ℕ} {r : Answer ℕ} {n : ℕ}
+    (did : Writes limit kind l words ones twos before r after) (said : r ≡ given n) where
   abbrev made : List ℕ
   made = card_of (format_for kind l words) (slot_from words ones twos)
 
@@ -73,9 +71,9 @@ module _ {limit kind l : ℕ} {words ones twos before after : List ℕ} {r : Wri
   read_back = rw made_is (record { admitted = made_admitted; fetched = made_fetched; stepped = made_stepped })
 
   -- admitted into lent lists that have room, it fills their first slots with the lists that were given
-  pub read_into : {a b c a' b' c' : List ℕ} {q : Admitted} → Listed limit (take n after) a b c q a' b' c'
+  pub read_into : {a b c a' b' c' : List ℕ} {q : Answer Format} → Listed limit (take n after) a b c q a' b' c'
       → has_room (length words) (length a) (length b) (length c) ≡ true
-      → (says_admitted q ≡ given (format_for kind l words))
+      → (q ≡ given (format_for kind l words))
       × (take (length words) a' ≡ words) × (take (length words) b' ≡ ones) × (take (length words) c' ≡ twos)
   read_into listed room =
       let has = wrote_accepted did said in
@@ -91,22 +89,22 @@ module _ {limit kind l : ℕ} {words ones twos before after : List ℕ} {r : Wri
       )
 
 -- what is written was accepted and had room
-pub written_accepted : {limit kind l : ℕ} {words ones twos before after : List ℕ} {r : Written} {n : ℕ}
-    → Writes limit kind l words ones twos before r after → says_written r ≡ given n
+pub written_accepted : {limit kind l : ℕ} {words ones twos before after : List ℕ} {r : Answer ℕ} {n : ℕ}
+    → Writes limit kind l words ones twos before r after → r ≡ given n
     → ListsHold limit (format_for kind l words) words ones twos × (size_of (length words) ≤ length before)
 written_accepted did said = (wrote_accepted did said, wrote_room did said)
 
 -- lists that are accepted are written, where there is room
-pub accepted_written : {limit kind l : ℕ} {words ones twos before after : List ℕ} {r : Written}
+pub accepted_written : {limit kind l : ℕ} {words ones twos before after : List ℕ} {r : Answer ℕ}
     → Writes limit kind l words ones twos before r after → ListsHold limit (format_for kind l words) words ones twos
     → size_of (length words) ≤ length before
-    → says_written r ≡ given (size_of (length words))
+    → r ≡ given (size_of (length words))
 accepted_written did has room = (wrote_card did has room).0
 
 -- a card that was admitted into lists, and its lists written
-module _ {limit : ℕ} {card a b c a' b' c' : List ℕ} {q : Admitted} {f : Format}
-    (listed : Listed limit card a b c q a' b' c') (told : says_admitted q ≡ given f)
-    {before after : List ℕ} {r : Written}
+module _ {limit : ℕ} {card a b c a' b' c' : List ℕ} {q : Answer Format} {f : Format}
+    (listed : Listed limit card a b c q a' b' c') (told : q ≡ given f)
+    {before after : List ℕ} {r : Answer ℕ}
     (did : Writes limit f.kind f.l (take f.m a') (take f.m b') (take f.m c') before r after) where
   abbrev admitted : admission limit card ≡ given f
   admitted = listed_admitted listed told
@@ -119,10 +117,10 @@ module _ {limit : ℕ} {card a b c a' b' c' : List ℕ} {q : Admitted} {f : Form
   own_size : size_of (length (its_words limit card admitted)) ≡ length card
   own_size = ap size_of (length_its limit card admitted) ∙ sym (admitted_size limit card admitted)
 
-  pub written_again : length card ≤ length before → (says_written r ≡ given (length card)) × (after ≡ card ++ drop (length card) before)
+  pub written_again : length card ≤ length before → (r ≡ given (length card)) × (after ≡ card ++ drop (length card) before)
   written_again room =
       let wrote = wrote_card own_lists (its_hold limit card admitted) (rw own_size room) in
       rw (own_size, again_card limit card admitted listed.of_bytes) at wrote
 
-  pub again_no_room : length before < length card → (says_written r ≡ refused Room 0) × (after ≡ before)
+  pub again_no_room : length before < length card → (r ≡ refused Room 0) × (after ≡ before)
   again_no_room short = wrote_nothing own_lists (its_hold limit card admitted) (rw own_size short)

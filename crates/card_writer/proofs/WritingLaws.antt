@@ -6,10 +6,9 @@ use native.Mathlib.Omega.{arith}
 use lib.ListN.{length, drop}
 use lib.Dec.{leb}
 use borrow.Author.Tests.{le-leb, lt-leb, leb-true}
-use Rattle.base_answers.specs.declared.Refusal.{Refusal}
 use Rattle.base_answers.specs.Numbers.{Room}
-use Rattle.base_answers.specs.Answer.{given, refused, sound, test, first}
-use Rattle.base_answers.proofs.Laws.{first_fail, first_last, first_passed, first_holds, first_refused, first_both, first_value}
+use Rattle.base_answers.specs.Answer.{Answer, given, refused, sound, test, first}
+use Rattle.base_answers.proofs.Laws.{first_fail, first_last, first_passed, first_holds, first_refused, first_both, first_value, told_holds, told_refused}
 use Rattle.card_entries.specs.Slot.{slot_from}
 use Rattle.card_layout.specs.Layout.{size_of}
 use Rattle.card_layout.specs.Card.{card_of}
@@ -17,9 +16,7 @@ use Rattle.card_layout.proofs.CardLaws.{length_card}
 use Rattle.card_lists.specs.Lists.{lists_tests}
 use Rattle.card_entries.specs.Hold.{format_for, ListsHold}
 use Rattle.card_lists.proofs.Laws.{lists_held, held_lists}
-use Rattle.card_writer.specs.declared.Written.{Written}
-use Rattle.card_writer.specs.declared.Written.TheVariants.{Card, Refused}
-use Rattle.card_writer.specs.Writing.{writing, says_written, Writes}
+use Rattle.card_writer.specs.Writing.{writing, Writes}
 
 -- ---- the three outcomes
 
@@ -48,22 +45,22 @@ module _ {limit kind l : ℕ} {words ones twos : List ℕ} (room : ℕ) (has : L
 -- and what it leaves in the output
 module _ {limit kind l : ℕ} {words ones twos before : List ℕ} where
   -- nothing is written where the answer is a refusal
-  untouched : {n : Refusal} → writing limit kind l words ones twos (length before) ≡ refused n.number n.place
-      → Writes limit kind l words ones twos before (Refused n) before
+  untouched : {n p : ℕ} → writing limit kind l words ones twos (length before) ≡ refused n p
+      → Writes limit kind l words ones twos before (refused n p) before
   untouched e = record { answer = sym e; bytes = rw e }
 
-  pub lists_refused : {n : Refusal} → first (lists_tests limit kind l words ones twos) sound ≡ refused n.number n.place
-      → Writes limit kind l words ones twos before (Refused n) before
+  pub lists_refused : {n p : ℕ} → first (lists_tests limit kind l words ones twos) sound ≡ refused n p
+      → Writes limit kind l words ones twos before (refused n p) before
   lists_refused e = untouched (lists_stop limit kind l words ones twos (length before) e)
 
   module _ (has : ListsHold limit (format_for kind l words) words ones twos) where
     pub no_room : length before < size_of (length words)
-        → Writes limit kind l words ones twos before (Refused (record { number = Room; place = 0 })) before
+        → Writes limit kind l words ones twos before (refused Room 0) before
     no_room h = untouched (room_refused (length before) has h)
 
     pub card_written : {n : ℕ} {after : List ℕ} → n ≡ size_of (length words) → n ≤ length before
         → after ≡ card_of (format_for kind l words) (slot_from words ones twos) ++ drop n before
-        → Writes limit kind l words ones twos before (Card n) after
+        → Writes limit kind l words ones twos before (given n) after
     card_written {n} {after} size h e =
         let says : writing limit kind l words ones twos (length before) ≡ given n =
         card_given (length before) has (omega arith) ∙ ap given (sym size) in
@@ -73,8 +70,8 @@ module _ {limit kind l : ℕ} {words ones twos before : List ℕ} where
 
 -- ---- what an answer says
 
-module _ {limit kind l : ℕ} {words ones twos before after : List ℕ} {r : Written} {n : ℕ}
-    (did : Writes limit kind l words ones twos before r after) (said : says_written r ≡ given n) where
+module _ {limit kind l : ℕ} {words ones twos before after : List ℕ} {r : Answer ℕ} {n : ℕ}
+    (did : Writes limit kind l words ones twos before r after) (said : r ≡ given n) where
   writing_said : writing limit kind l words ones twos (length before) ≡ given n
   writing_said = sym did.answer ∙ said
 
@@ -97,10 +94,10 @@ module _ {limit kind l : ℕ} {words ones twos before after : List ℕ} {r : Wri
   wrote_bytes = rw writing_said at did.bytes
 
 -- of lists that are accepted: the room decides
-module _ {limit kind l : ℕ} {words ones twos before after : List ℕ} {r : Written}
+module _ {limit kind l : ℕ} {words ones twos before after : List ℕ} {r : Answer ℕ}
     (did : Writes limit kind l words ones twos before r after) (has : ListsHold limit (format_for kind l words) words ones twos) where
   pub wrote_card : size_of (length words) ≤ length before
-      → (says_written r ≡ given (size_of (length words)))
+      → (r ≡ given (size_of (length words)))
       × (after
       ≡ card_of (format_for kind l words) (slot_from words ones twos)
       ++ drop (length (card_of (format_for kind l words) (slot_from words ones twos))) before)
@@ -108,7 +105,11 @@ module _ {limit kind l : ℕ} {words ones twos before after : List ℕ} {r : Wri
       let said = card_given (length before) has h in
       (did.answer ∙ said, rw said at did.bytes)
 
-  pub wrote_nothing : length before < size_of (length words) → (says_written r ≡ refused Room 0) × (after ≡ before)
+  pub wrote_nothing : length before < size_of (length words) → (r ≡ refused Room 0) × (after ≡ before)
   wrote_nothing h =
       let said = room_refused (length before) has h in
       (did.answer ∙ said, rw said at did.bytes)
+
+-- ---- what the check applies by itself, to what the tests of the lists tell
+
+pub ruleset tells = (told_holds, told_refused, lists_held, lists_refused, no_room, card_written)

@@ -5,14 +5,12 @@
 -- The tests of the lists are `lists_tests`. Assumes nothing.
 use Rattle.std.specs.Prelude.{◌≡◌, ℕ, List, [], ◌∷◌, ◌++◌, length, leb}
 use Rattle.base_answers.specs.Numbers.{Room}
-use Rattle.base_answers.specs.Answer.{Answer, given, refused, test, first, output_after}
+use Rattle.base_answers.specs.Answer.{Answer, test, first, output_after}
 use Rattle.card_entries.specs.Slot.{slot_from}
 use Rattle.card_layout.specs.Layout.{size_of}
 use Rattle.card_layout.specs.Card.{card_of}
 use Rattle.card_lists.specs.Lists.{lists_tests}
 use Rattle.card_entries.specs.Hold.{format_for}
-use Rattle.card_writer.specs.declared.Written.{Written}
-use Rattle.card_writer.specs.declared.Written.TheVariants.{Card, Refused}
 
 -- then 12: "for the writer below the card's size"; "the writer answers the card's length in bytes"
 unfoldable pub writing : ℕ → ℕ → ℕ → List ℕ → List ℕ → List ℕ → ℕ → Answer ℕ
@@ -21,13 +19,9 @@ writing limit kind l words ones twos room =
     (lists_tests limit kind l words ones twos ++ (test (leb (size_of (length words)) room) Room 0 ∷ []))
     (size_of (length words))
 
-abbrev pub says_written : Written → Answer ℕ
-says_written (Card n) = given n
-says_written (Refused r) = refused r.number r.place
-
 -- "the card standing at the start of the output"
-pub record Writes (limit kind l : ℕ) (words ones twos before : List ℕ) (r : Written) (after : List ℕ) : Type 0 where
-  pub answer : says_written r ≡ writing limit kind l words ones twos (length before)
+pub record Writes (limit kind l : ℕ) (words ones twos before : List ℕ) (r : Answer ℕ) (after : List ℕ) : Type 0 where
+  pub answer : r ≡ writing limit kind l words ones twos (length before)
   pub bytes : after
       ≡ output_after
       (card_of (format_for kind l words) (slot_from words ones twos))

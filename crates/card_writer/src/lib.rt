@@ -3,6 +3,7 @@
 #![tactic(auto)]
 
 ghost use Rattle.std.specs.Prelude.{◌≡◌, ◌+◌, ◌*◌, ◌≤◌, ◌<◌, length};
+ghost use Rattle.base_answers.specs.Answer.{says};
 ghost use Rattle.base_lists.specs.Parts.{put_at};
 ghost use Rattle.card_block.specs.Block.{block_bytes};
 ghost use Rattle.card_block.specs.Sealing.{sealed};
@@ -12,61 +13,55 @@ ghost use Rattle.card_layout.specs.Layout.{entry_blocks, size_of, entries_before
 ghost use Rattle.card_layout.specs.Card.{slots_bytes, card_of};
 ghost use Rattle.card_writer.specs.Writing.{Writes};
 
-use base_answers::{Held, Refusal};
+use base_answers::Refusal;
 use card_block::BLOCK;
-use card_entries::Format;
-
-// What writing answers: the card's length in bytes, or the refusal.
-#[derive(Clone, Copy)]
-pub enum Written {
-    Card(usize),
-    Refused(Refusal),
-}
+use card_entries::{EntryLists, Format};
 
 // Writes n entries of the lists, from entry e on, into a part from its first byte on.
-fn put_slots(part: &mut [u8], words: &[u32], ones: &[u16], twos: &[u16], e: usize, n: usize)
+fn put_slots(part: &mut [u8], lists: &EntryLists, e: usize, n: usize)
     requires room { entry_bytes * n ≤ length part.old }
-    requires listed { (e + n ≤ length words.now) × (e + n ≤ length ones.now) × (e + n ≤ length twos.now) }
+    requires listed { (e + n ≤ length lists.now.words.now) × (e + n ≤ length lists.now.ones.now) × (e + n ≤ length lists.now.twos.now) }
     ensures { part.new
-        ≡ put_at (slots_bytes (slot_from words.now ones.now twos.now) e n) 0 part.old }
+        ≡ put_at (slots_bytes (slot_from lists.now.words.now lists.now.ones.now lists.now.twos.now) e n) 0 part.old }
 {
-    let mut j = 0;
-    while j < n {
-        card_entries::put_slot(part, j, card_lists::slot_from(words, ones, twos, e + j));
-        j += 1;
+    for j in 0..n {
+        card_entries::put_slot(part, j, lists.slot(e + j));
     }
 }
 
 // Writes block k, which is not block 0, of a card of the lists, which has m entries.
-fn put_later(part: &mut [u8], words: &[u32], ones: &[u16], twos: &[u16], m: usize, k: usize)
+fn put_later(part: &mut [u8], lists: &EntryLists, m: usize, k: usize)
     requires block_and_index { (length part.old ≡ block_bytes) × (m ≤ most_entries) × (1 ≤ k) × (k ≤ entry_blocks m) }
-    requires listed { (m ≤ length words.now) × (m ≤ length ones.now) × (m ≤ length twos.now) }
+    requires listed { (m ≤ length lists.now.words.now) × (m ≤ length lists.now.ones.now) × (m ≤ length lists.now.twos.now) }
     ensures { part.new
-        ≡ sealed (slots_bytes (slot_from words.now ones.now twos.now) (entries_before k) (entries_in_block m k)) k }
+        ≡ sealed
+        (slots_bytes
+        (slot_from lists.now.words.now lists.now.ones.now lists.now.twos.now)
+        (entries_before k)
+        (entries_in_block m k))
+        k }
 {
     let n = card_layout::entries_in_block(m, k);
-    put_slots(part, words, ones, twos, card_layout::entries_before(k), n);
+    put_slots(part, lists, card_layout::entries_before(k), n);
     card_block::seal(part, card_entries::ENTRY * n, k as u16);
 }
 
 // Writes a card of this format over all of an output that has its size.
-fn put_card(out: &mut [u8], f: Format, words: &[u32], ones: &[u16], twos: &[u16])
+fn put_card(out: &mut [u8], f: Format, lists: &EntryLists)
     requires format_fits { (f.kind < 256) × (f.l < 256) × (f.m ≤ most_entries) × (length out.old ≡ size_of f.m) }
-    requires listed { (f.m ≤ length words.now) × (f.m ≤ length ones.now) × (f.m ≤ length twos.now) }
-    ensures { out.new ≡ card_of f (slot_from words.now ones.now twos.now) }
+    requires listed { (f.m ≤ length lists.now.words.now) × (f.m ≤ length lists.now.ones.now) × (f.m ≤ length lists.now.twos.now) }
+    ensures { out.new ≡ card_of f (slot_from lists.now.words.now lists.now.ones.now lists.now.twos.now) }
 {
     card_layout::put_head(&mut out[..BLOCK], f);
-    let last = card_layout::entry_blocks(f.m);
-    let mut k = 1;
-    while k <= last {
+    for k in 1..=card_layout::entry_blocks(f.m) {
         let at = BLOCK * k;
-        let end = at + BLOCK;
-        put_later(&mut out[at..end], words, ones, twos, f.m, k);
-        k += 1;
+        put_later(&mut out[at..at + BLOCK], lists, f.m, k);
     }
 }
 
 // A card of the lists at the start of the output, with its length; or the refusal, and then no byte of the output differs.
+// The three lists are parameters of their own, as C lends them.
+#[tactic(auto, using(crate::proofs::WritingLaws::tells))]
 pub fn write(
     kind: usize,
     l: usize,
@@ -74,20 +69,16 @@ pub fn write(
     ones: &[u16],
     twos: &[u16],
     out: &mut [u8],
-) -> Written
-    ensures { Writes most_entries kind l words.now ones.now twos.now out.old result out.new }
+) -> Result<usize, Refusal>
+    ensures { Writes most_entries kind l words.now ones.now twos.now out.old (says result) out.new }
 {
-    if let Held::Refused(r) = card_lists::lists_hold(kind, l, words, ones, twos) {
-        return Written::Refused(r);
-    }
+    card_lists::lists_hold(kind, l, words, ones, twos)?;
     let m = words.len();
     let size = card_layout::size_of(m);
     if out.len() < size {
-        return Written::Refused(Refusal {
-            number: base_answers::ROOM,
-            place: 0,
-        });
+        return Err(Refusal::Room);
     }
-    put_card(&mut out[..size], Format { kind, l, m }, words, ones, twos);
-    Written::Card(size)
+    let lists = EntryLists { words, ones, twos };
+    put_card(&mut out[..size], Format { kind, l, m }, &lists);
+    Ok(size)
 }

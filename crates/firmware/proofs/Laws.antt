@@ -2,62 +2,25 @@
 use mathlib.Core.Path.{◌≡◌, refl, sym, ap, ◌∙◌}
 use mathlib.Core.List.{List}
 use Prim.Native.Nat.{ℕ, ◌*◌, ◌+◌, ◌≤◌}
+use Rattle.std.specs.Prelude.{Option}
 use lib.ListN.{length}
 use Rattle.base_answers.specs.Answer.{Answer, given, refused, Sound, sound, first}
 use Rattle.card_block.specs.Block.{block_bytes, fetch_tests, fetch_of}
 use Rattle.card_block.proofs.Laws.{holds_there, part_none, part_holds, part_length}
-use Rattle.card_entries.specs.declared.Entry.{Entry}
-use Rattle.card_reader.specs.Fetching.{more}
 use Rattle.build_sequence.specs.Many.{Power}
 use Rattle.build_sequence.specs.Verdict.{sole, several, no_build, Outcome, settled, unsettled}
 use Rattle.build_card.specs.Building.{answer_of, Builds}
 use Rattle.build_card.specs.declared.BuildAnswer as builds
 use Rattle.build_narrow.specs.Settling.{SettlesInto}
 use Rattle.build_narrow.proofs.SettlingLaws.{settles_as}
-use Rattle.build_count.specs.declared.Number.{Number}
 use Rattle.build_count.specs.Counting.{number_of, Counts}
 use Rattle.build_count.proofs.CountingLaws.{counts_as}
 use Rattle.firmware.specs.declared.building.BuildAnswer.{BuildAnswer}
 use Rattle.firmware.specs.Building.{build_answer, flat_of, Told}
-use Rattle.firmware.specs.declared.Shape.{Shape}
-use Rattle.firmware.specs.declared.EntryAnswer.{EntryAnswer}
-use Rattle.firmware.specs.declared.StepAnswer.{StepAnswer}
 use Rattle.firmware.specs.declared.PartAnswer.{PartAnswer}
 use Rattle.firmware.specs.declared.count.CountAnswer.{CountAnswer}
 use Rattle.firmware.specs.Counting.{count_answer, flat_number}
-use Rattle.firmware.specs.Flat.{shape_of, entry_answer, step_answer, part_answer}
-
--- ---- an enum that says what an answer is
-
--- the enum r says t, and is the case x: so t, as a struct, is what x says, as a struct
-pub told : {E A B : Type 0} (says : E → A) (flat : A → B) {r x : E} {t : A} → says r ≡ t → r ≡ x → flat (says x) ≡ flat t
-told says flat e q = ap flat (sym (ap says q) ∙ e)
-
--- ---- an entry
-
-module _ (e : Entry) {s : Shape} (q : s ≡ shape_of e.places) where
-  -- what a fetch found
-  pub entry_flat :
-      ◌≡◌ {A = EntryAnswer}
-      (record { number = 0; place = 0; shape = s.shape; word = e.word; first = s.first; second = s.second })
-      (entry_answer (given e))
-  entry_flat = λ i. record { number = 0; place = 0; shape = (q i).shape; word = e.word; first = (q i).first; second = (q i).second }
-
-  -- what a step hands back
-  pub step_flat : {next : ℕ}
-      → ◌≡◌ {A = StepAnswer}
-      (record { number = 0; place = 0; shape = s.shape; word = e.word; first = s.first; second = s.second; next = next })
-      (step_answer (given (more e next)))
-  step_flat {next} =
-      λ i. record {
-        number = 0;
-        place = 0;
-        shape = (q i).shape;
-        word = e.word;
-        first = (q i).first;
-        second = (q i).second;
-        next = next;
-      }
+use Rattle.firmware.specs.Flat.{part_answer}
 
 -- ---- a part, by its length
 
@@ -90,7 +53,7 @@ flat_same (given (unsettled n)) = refl
 flat_same (refused n p) = refl
 
 -- the struct of what build answers
-pub build_flat : {limit budget : ℕ} {card before after : List ℕ} {r : builds.BuildAnswer} {result : BuildAnswer}
+pub build_flat : {limit budget : ℕ} {card before after : List ℕ} {r : Answer builds.BuildAnswer} {result : BuildAnswer}
     → Builds limit card budget before r after
     → result ≡ flat_of r
     → Told limit card budget before result after
@@ -104,7 +67,7 @@ build_flat b e = record {
 -- ---- settling
 
 -- the struct of what settling answers
-pub settle_flat : {Says : Answer Outcome → Type 0} {before after : List ℕ} {r : builds.BuildAnswer} {result : BuildAnswer}
+pub settle_flat : {Says : Answer Outcome → Type 0} {before after : List ℕ} {r : Answer builds.BuildAnswer} {result : BuildAnswer}
     → SettlesInto answer_of Says before r after
     → result ≡ flat_of r
     → SettlesInto build_answer Says before result after
@@ -113,6 +76,6 @@ settle_flat c e = settles_as flat_of flat_same c e
 -- ---- the number of builds
 
 -- the struct of the number
-pub count_flat : {Says : Answer Power → Type 0} {r : Number} {result : CountAnswer} → Counts number_of Says r → result ≡ flat_number r
+pub count_flat : {Says : Answer Power → Type 0} {r : Answer (Option ℕ)} {result : CountAnswer} → Counts number_of Says r → result ≡ flat_number r
     → Counts count_answer Says result
 count_flat c e = counts_as flat_number c e

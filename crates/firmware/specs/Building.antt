@@ -3,7 +3,7 @@
 --                         the sequence, or 0 where none is given, and the placements; or the refusal
 --   Told limit card budget before result after
 --                      == the struct `result`, and every byte of the output afterwards
---   flat_of r          == the struct of each case of the enum that `build_card` answers with
+--   flat_of r          == the struct of each case of what `build_card` answers
 -- Assumes nothing.
 use Rattle.std.specs.Prelude.{◌≡◌, List, ℕ, length}
 use Rattle.base_answers.specs.Answer.{Answer, given, refused}
@@ -31,9 +31,9 @@ pub record Told (limit : ℕ) (card : List ℕ) (budget : ℕ) (before : List �
   pub answer : result ≡ build_answer said
   pub output : after ≡ letters_after said before
 
-abbrev pub flat_of : builds.BuildAnswer → BuildAnswer
-flat_of (is.Sole n k) = verdict_answer 1 n k
-flat_of (is.Several n k) = verdict_answer 2 n k
-flat_of (is.None k) = verdict_answer 3 0 k
-flat_of (is.Unsettled k) = verdict_answer 4 0 k
-flat_of (is.Refused r) = record { number = r.number; place = r.place; verdict = 0; length = 0; placements = 0 }
+abbrev pub flat_of : Answer builds.BuildAnswer → BuildAnswer
+flat_of (given (is.Sole n k)) = verdict_answer 1 n k
+flat_of (given (is.Several n k)) = verdict_answer 2 n k
+flat_of (given (is.None k)) = verdict_answer 3 0 k
+flat_of (given (is.Unsettled k)) = verdict_answer 4 0 k
+flat_of (refused n p) = record { number = n; place = p; verdict = 0; length = 0; placements = 0 }

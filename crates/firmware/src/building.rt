@@ -1,9 +1,12 @@
 // Build, for C.
 ghost use Rattle.std.specs.Prelude.{◌≡◌};
+ghost use Rattle.base_answers.specs.Answer.{says};
 ghost use Rattle.card_entries.specs.Bounds.{most_entries};
 ghost use Rattle.firmware.specs.Building.{verdict_answer, flat_of, Told};
 
-// The verdicts.
+use base_answers::Refusal;
+
+// The verdicts, by the numbers that C sees.
 const SOLE: usize = 1;
 
 const SEVERAL: usize = 2;
@@ -15,7 +18,7 @@ const UNSETTLED: usize = 4;
 // What build answers, and settling. The number is 0 where nothing is refused, with the verdict, the length of the sequence, which is 0 where none is
 // given, and the placements; else it is the refusal's, with its place, and the rest is 0.
 #[repr(C)]
-#[derive(Clone, Copy)]
+#[derive(Clone, Copy, Default)]
 pub struct BuildAnswer {
     pub number: usize,
     pub place: usize,
@@ -29,30 +32,28 @@ fn told(verdict: usize, length: usize, placements: u32) -> BuildAnswer
     ensures { result ≡ verdict_answer verdict length placements }
 {
     BuildAnswer {
-        number: 0,
-        place: 0,
         verdict,
         length,
         placements: placements as usize,
+        ..BuildAnswer::default()
     }
 }
 
-// What build or settling answers, as numbers.
-pub fn flat(a: build_card::BuildAnswer) -> BuildAnswer
-    ensures { result ≡ flat_of a }
-{
-    match a {
-        build_card::BuildAnswer::Sole(n, k) => told(SOLE, n, k),
-        build_card::BuildAnswer::Several(n, k) => told(SEVERAL, n, k),
-        build_card::BuildAnswer::None(k) => told(NONE, 0, k),
-        build_card::BuildAnswer::Unsettled(k) => told(UNSETTLED, 0, k),
-        build_card::BuildAnswer::Refused(r) => BuildAnswer {
-            number: r.number,
-            place: r.place,
-            verdict: 0,
-            length: 0,
-            placements: 0,
-        },
+impl From<Result<build_card::BuildAnswer, Refusal>> for BuildAnswer {
+    fn from(answer: Result<build_card::BuildAnswer, Refusal>) -> BuildAnswer
+        ensures { result ≡ flat_of (says answer) }
+    {
+        match answer {
+            Ok(build_card::BuildAnswer::Sole(n, k)) => told(SOLE, n, k),
+            Ok(build_card::BuildAnswer::Several(n, k)) => told(SEVERAL, n, k),
+            Ok(build_card::BuildAnswer::None(k)) => told(NONE, 0, k),
+            Ok(build_card::BuildAnswer::Unsettled(k)) => told(UNSETTLED, 0, k),
+            Err(r) => BuildAnswer {
+                number: r.number(),
+                place: r.place(),
+                ..BuildAnswer::default()
+            },
+        }
     }
 }
 
@@ -62,5 +63,5 @@ pub fn flat(a: build_card::BuildAnswer) -> BuildAnswer
 pub extern "C" fn belfrymist_build(card: &[u8], budget: u32, out: &mut [u8]) -> BuildAnswer
     ensures { Told most_entries card.now budget out.old result out.new }
 {
-    flat(build_card::build(card, budget, out))
+    BuildAnswer::from(build_card::build(card, budget, out))
 }

@@ -6,9 +6,7 @@ ghost use Rattle.text_import.specs.Importing.{card_in, importing};
 ghost use Rattle.text_export.specs.Exporting.{list_of, exporting};
 ghost use Rattle.firmware.specs.Flat.{write_answer};
 
-use crate::writing;
 use crate::writing::WriteAnswer;
-use text_export::Exported;
 
 // A card of the list at the start of the output, whose later bytes are as they were; or the first rule that is broken, and then no byte of
 // the output differs.
@@ -18,7 +16,7 @@ pub extern "C" fn belfrymist_import(list: &[u8], out: &mut [u8]) -> WriteAnswer
     ensures bytes { out.new
         ≡ output_after (card_in list.now) out.old (importing most_entries list.now (length out.old)) }
 {
-    writing::flat(text_import::import(list, out))
+    WriteAnswer::from(text_import::import(list, out))
 }
 
 // The list of a card at the start of the output, whose later bytes are as they were; or the first rule that is broken, and then no byte of
@@ -29,8 +27,5 @@ pub extern "C" fn belfrymist_export(card: &[u8], out: &mut [u8]) -> WriteAnswer
     ensures bytes { out.new
         ≡ output_after (list_of card.now) out.old (exporting most_entries card.now (length out.old)) }
 {
-    match text_export::export(card, out) {
-        Exported::Text(n) => writing::wrote(n),
-        Exported::Refused(r) => writing::refused(r),
-    }
+    WriteAnswer::from(text_export::export(card, out))
 }

@@ -1,24 +1,42 @@
 // FASTA records, for C.
 ghost use Rattle.std.specs.Prelude.{◌≡◌, length};
-ghost use Rattle.base_answers.specs.Answer.{output_after};
+ghost use Rattle.base_answers.specs.Answer.{says, output_after};
 ghost use Rattle.text_fasta.specs.Record.{record_of};
 ghost use Rattle.text_fasta.specs.Writing.{writing};
 ghost use Rattle.text_fasta.specs.Reading.{name_in, body_in, letters_in, reading};
 ghost use Rattle.firmware.specs.Flat.{write_answer, fasta_answer};
 
 use crate::writing::WriteAnswer;
-use text_fasta::reading::Parsed;
-use text_fasta::writing::Recorded;
+use base_answers::Refusal;
 
 // What reading a record answers. The number is 0 for a record that is read, with the lengths of its name and of its letters; else it is the
 // refusal's, with its place, and the rest is 0.
 #[repr(C)]
-#[derive(Clone, Copy)]
+#[derive(Clone, Copy, Default)]
 pub struct FastaAnswer {
     pub number: usize,
     pub place: usize,
     pub name: usize,
     pub letters: usize,
+}
+
+impl From<Result<(usize, usize), Refusal>> for FastaAnswer {
+    fn from(read: Result<(usize, usize), Refusal>) -> FastaAnswer
+        ensures { result ≡ fasta_answer (says read) }
+    {
+        match read {
+            Ok((name, letters)) => FastaAnswer {
+                name,
+                letters,
+                ..FastaAnswer::default()
+            },
+            Err(r) => FastaAnswer {
+                number: r.number(),
+                place: r.place(),
+                ..FastaAnswer::default()
+            },
+        }
+    }
 }
 
 // The record of a name and letters at the start of the output, whose later bytes are as they were; or the first rule that is broken, and then
@@ -32,14 +50,11 @@ pub extern "C" fn belfrymist_write_fasta(name: &[u8], letters: &[u8], out: &mut 
         out.old
         (writing name.now letters.now (length out.old)) }
 {
-    match text_fasta::writing::write(name, letters, out) {
-        Recorded::Record(n) => crate::writing::wrote(n),
-        Recorded::Refused(r) => crate::writing::refused(r),
-    }
+    WriteAnswer::from(text_fasta::writing::write(name, letters, out))
 }
 
 // The name and the letters of a record, each at the start of its output, whose later bytes are as they were; or the first rule that is broken,
-// and then no byte of either output differs.
+// and then no byte of either output differs. The C interface has a function for each operation, so that writing and reading stand alike.
 #[unsafe(no_mangle)]
 pub extern "C" fn belfrymist_read_fasta(
     bytes: &[u8],
@@ -58,18 +73,5 @@ pub extern "C" fn belfrymist_read_fasta(
         letters.old
         (reading bytes.now (length name.old) (length letters.old)) }
 {
-    match text_fasta::reading::read(bytes, name, letters) {
-        Parsed::Parts(n, k) => FastaAnswer {
-            number: 0,
-            place: 0,
-            name: n,
-            letters: k,
-        },
-        Parsed::Refused(r) => FastaAnswer {
-            number: r.number,
-            place: r.place,
-            name: 0,
-            letters: 0,
-        },
-    }
+    FastaAnswer::from(text_fasta::reading::read(bytes, name, letters))
 }

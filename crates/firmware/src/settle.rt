@@ -4,7 +4,6 @@ ghost use Rattle.card_entries.specs.Bounds.{most_entries};
 ghost use Rattle.build_narrow.specs.Settling.{OfCard, OfLists, SettlesInto};
 ghost use Rattle.firmware.specs.Building.{build_answer};
 
-use crate::building;
 use crate::building::BuildAnswer;
 
 // The verdict on a narrow span card. Where there is a build, the letters of the alphabetically first one stand at the start of the output,
@@ -13,10 +12,10 @@ use crate::building::BuildAnswer;
 pub extern "C" fn belfrymist_settle(card: &[u8], out: &mut [u8]) -> BuildAnswer
     ensures { SettlesInto build_answer (OfCard most_entries card.now (length out.old)) out.old result out.new }
 {
-    building::flat(build_narrow::settle_card(card, out))
+    BuildAnswer::from(build_narrow::settle_card(card, out))
 }
 
-// The same from lists.
+// The same from lists. The C interface has a function for each operation, and so does this crate: those that write stand alike.
 #[unsafe(no_mangle)]
 pub extern "C" fn belfrymist_settle_lists(
     kind: usize,
@@ -30,5 +29,5 @@ pub extern "C" fn belfrymist_settle_lists(
         (OfLists most_entries kind l words.now ones.now twos.now (length out.old))
         out.old result out.new }
 {
-    building::flat(build_narrow::settle_lists(kind, l, words, ones, twos, out))
+    BuildAnswer::from(build_narrow::settle_lists(kind, l, words, ones, twos, out))
 }

@@ -1,55 +1,40 @@
 // The writer, for C.
 ghost use Rattle.std.specs.Prelude.{◌≡◌, length};
-ghost use Rattle.base_answers.specs.Answer.{given, refused, output_after};
+ghost use Rattle.base_answers.specs.Answer.{says, output_after};
 ghost use Rattle.card_entries.specs.Bounds.{most_entries};
 ghost use Rattle.card_layout.specs.Card.{card_of};
 ghost use Rattle.card_entries.specs.Hold.{format_for};
-ghost use Rattle.card_writer.specs.Writing.{writing, says_written};
+ghost use Rattle.card_writer.specs.Writing.{writing};
 ghost use Rattle.card_entries.specs.Slot.{slot_from};
 ghost use Rattle.firmware.specs.Flat.{write_answer};
 
 use base_answers::Refusal;
-use card_writer::Written;
 
 // What writing, importing, exporting and writing a FASTA record answer. The number is 0 where a card, a list or a record was written, with its
 // length in bytes; else it is the refusal's, with its place, and the length is 0.
 #[repr(C)]
-#[derive(Clone, Copy)]
+#[derive(Clone, Copy, Default)]
 pub struct WriteAnswer {
     pub number: usize,
     pub place: usize,
     pub length: usize,
 }
 
-// So many bytes were written.
-pub fn wrote(length: usize) -> WriteAnswer
-    ensures { result ≡ write_answer (given length) }
-{
-    WriteAnswer {
-        number: 0,
-        place: 0,
-        length,
-    }
-}
-
-// Nothing was.
-pub fn refused(r: Refusal) -> WriteAnswer
-    ensures { result ≡ write_answer (refused r.number r.place) }
-{
-    WriteAnswer {
-        number: r.number,
-        place: r.place,
-        length: 0,
-    }
-}
-
-// What the writer answers, as numbers.
-pub fn flat(w: Written) -> WriteAnswer
-    ensures { result ≡ write_answer (says_written w) }
-{
-    match w {
-        Written::Card(n) => wrote(n),
-        Written::Refused(r) => refused(r),
+impl From<Result<usize, Refusal>> for WriteAnswer {
+    fn from(written: Result<usize, Refusal>) -> WriteAnswer
+        ensures { result ≡ write_answer (says written) }
+    {
+        match written {
+            Ok(length) => WriteAnswer {
+                length,
+                ..WriteAnswer::default()
+            },
+            Err(r) => WriteAnswer {
+                number: r.number(),
+                place: r.place(),
+                ..WriteAnswer::default()
+            },
+        }
     }
 }
 
@@ -71,5 +56,5 @@ pub extern "C" fn belfrymist_write(
         out.old
         (writing most_entries kind l words.now ones.now twos.now (length out.old)) }
 {
-    flat(card_writer::write(kind, l, words, ones, twos, out))
+    WriteAnswer::from(card_writer::write(kind, l, words, ones, twos, out))
 }

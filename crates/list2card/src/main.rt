@@ -1,26 +1,24 @@
-// The program `list2card`: reads a probe list from standard input, and writes its card, or on standard error why there is none.
+// The program `list2card`: reads a probe list from standard input, and writes its card, or on standard error why there is none. `card2list` and
+// `card2fasta` are as short, with their own names, rooms and conversions: a function that is given all these would be longer than each.
 #![tactic(auto)]
 
 use program_streams::list::BYTES;
 
 fn main(rt: HostRuntime) {
     let usage = b"usage: list2card < LIST > CARD\n";
-    let mut list = [0u8; BYTES];
-    let given = program_streams::list::read(&rt, &mut list, usage, b"list2card: standard input");
-    if !given.whole {
+    let mut bytes = [0u8; BYTES];
+    let read = program_streams::list::read(&rt, &mut bytes, usage, b"list2card: standard input");
+    let Some(list) = read else {
         return;
-    }
-    let n = given.n;
+    };
     let mut out = [0u8; card_layout::LONGEST];
     let mut err = [0u8; program_converting::LINE];
-    let written = program_converting::to_card::convert(&list[..n], &mut out, &mut err);
-    let output = written.output;
-    let errors = written.errors;
+    let written = program_converting::to_card::convert(list, &mut out, &mut err);
     program_streams::write(
         &rt,
         &rt.stdout(),
-        &out[..output],
+        &out[..written.output],
         b"list2card: standard output",
     );
-    program_streams::say(&rt, &err[..errors]);
+    program_streams::say(&rt, &err[..written.errors]);
 }

@@ -2,19 +2,19 @@
 use mathlib.Core.Path.{◌≡◌, refl, sym, ◌∙◌}
 use mathlib.Core.Bool.{Bool, true, false, true≢false}
 use mathlib.Core.Logic.{◌≢◌, ◌⊎◌, inl, inr, ⊎_elim, by_cases}
-use Prim.Native.Nat.{ℕ, ◌-◌, ◌<◌, ◌≤◌}
+use Prim.Native.Nat.{ℕ, suc, ◌-◌, ◌<◌, ◌≤◌}
 use native.Mathlib.Omega.{arith}
 use native.Mathlib.Decide.{ℕ_discrete, dec_lt}
 use Rattle.pair_theory.specs.Arranged.{Pairs, Inside, HasPlace, Arranged}
 use Rattle.pair_theory.specs.Chosen.{Agrees, Closed, Possible, HasWord, Refuted, Followed, Seen, Cleared, NoBuild}
 use Rattle.pair_following.specs.Following.{nth, Progress, Trail, Follows, Attempt}
-use Rattle.pair_choosing.specs.Choosing.{Joined, least_of, Kept, Tries, Weighed, Picked, pick_of, Drops, DropsAll, Chooses}
-use Rattle.pair_following.specs.Common.{Common}
+use Rattle.pair_choosing.specs.Choosing.{least_of, Kept, Tries, Weighed, Picked, pick_of, Drops, DropsAll, Chooses}
+use Rattle.pair_following.specs.Common.{Common, Joined}
 use Rattle.pair_theory.proofs.Extends.{extends, over, over_agrees, filled, was_possible}
 use Rattle.pair_following.proofs.ExclusionLaws.{stands_other, other_than}
-use Rattle.pair_following.proofs.CommonLaws.{common_not, common_first, common_same, common_many}
+use Rattle.pair_following.proofs.CommonLaws.{word_order}
 use Rattle.pair_theory.proofs.Places.{OnlyNext, one_more, seen_all, tried_first, tried_fails, tried_same, tried_larger, tried_smaller}
-use Rattle.pair_theory.proofs.Places.{chosen_same, chosen_tried, tried_there, cleared_none, refuted_placed}
+use Rattle.pair_theory.proofs.Places.{chosen_same, chosen_tried, tried_there, cleared_none}
 
 -- ---- one entry more of the list
 
@@ -63,18 +63,6 @@ module _ {c : Pairs} {s : ℕ → ℕ} {t : ℕ} (l : t < c.m) {b b' e : ℕ} (p
 pub weighed_start : {c : Pairs} {s : ℕ → ℕ} {t b w : ℕ} → ((e : ℕ) → e < c.m → Seen c t b e → ⊥) → Weighed c s t b w 0
 weighed_start h = record { none = λ _ e p z. absurd (h e p z); some = λ z. absurd (omega arith); few = omega arith }
 
--- an entry that stands at t already
-pub followed_self : {c : Pairs} {s : ℕ → ℕ} {e t : ℕ} → Closed c s → s e ≡ t → Followed c s e t s
-followed_self k h = record { closed = k; keeps = λ f p x. refl; takes = h; forced = λ σ a g x. g }
-
-module _ {c : Pairs} {b : Progress} {e t : ℕ} (h : Trail c.m b) (k : Closed c (nth b.put)) where
-  pub stand_there : nth b.put e ≡ t → Attempt c b e t b true
-  stand_there x = record { same = refl; shape = h; yes = λ _. (nth b.put, followed_self k x); no = λ y. absurd (true≢false y) }
-
-  pub stand_not : e < c.m → nth b.put e < c.m → nth b.put e ≢ t → Attempt c b e t b false
-  stand_not p x d =
-      record { same = refl; shape = h; yes = λ y. absurd (true≢false (sym y)); no = λ _. refuted_placed c (nth b.put) e t p x d }
-
 -- ---- the outcomes at a place
 
 -- some arrangement that agrees, where there is one, has an entry at t
@@ -115,22 +103,6 @@ module _ {c : Pairs} {b a : Progress} {t w n : ℕ} (l : t < c.m) (r : Weighed c
 -- ---- an entry goes from t
 
 module _ {c : Pairs} {b : Progress} {t w e : ℕ} (h : Trail c.m b) (ep : e < c.m) where
-  pub drops_still : Closed c (nth b.put) → (Possible c (nth b.put) t e → c.word e ≡ w) → Drops c b e (pick_of t w) b true
-  drops_still k x =
-      record { shape = h; closed = λ _. k; keeps = λ f p z. refl; forced = λ _ σ a g y. g; gone = λ _. x; bad = λ z. absurd (true≢false z) }
-
-  -- entry e, with another word, stands at t
-  pub drops_not : c.word e ≢ w → ((σ : ℕ → ℕ) → Arranged c σ → Agrees c (nth b.put) σ → σ e ≡ t) → Drops c b e (pick_of t w) b false
-  drops_not d x =
-      record {
-        shape = h;
-        closed = λ z. absurd (true≢false (sym z));
-        keeps = λ f p z. refl;
-        forced = λ z. absurd (true≢false (sym z));
-        gone = λ z. absurd (true≢false (sym z));
-        bad = λ _ σ a g y. d (y e ep (x σ a g));
-      }
-
   module _ (d : c.word e ≢ w) (st : HasPlace c e t) where
     -- where t has the word w, e is at its other place
     off : {σ : ℕ → ℕ} → Arranged c σ → HasWord c σ t w → σ e ≡ other_than c e t
@@ -193,47 +165,12 @@ pub dropping_start : {c : Pairs} {b : Progress} {t w x : ℕ} → Closed c (nth 
     → ((e : ℕ) → e < c.m → Seen c t x e → ⊥) → Dropping c b (pick_of t w) x b
 dropping_start {c} {b} {t} {w} {x} k h z = record { shape = h; cleared = cleared_none c (nth b.put) t x w k z }
 
-pub dropping_end : {c : Pairs} {b a : Progress} {t w x : ℕ} → x ≤ 0 → Dropping c b (pick_of t w) x a → DropsAll c b (pick_of t w) a true
-dropping_end {c} {t} {x} z r =
-    record {
-      shape = r.shape;
-      good = λ _. record {
-        closed = r.cleared.closed;
-        keeps = r.cleared.keeps;
-        forced = r.cleared.forced;
-        out = λ e p y. r.cleared.out e p (lower e y);
-      };
-      bad = λ v. absurd (true≢false v);
-    }
-  where
-    lower : (e : ℕ) → Seen c t 0 e → Seen c t x e
-    lower e y = ⊎_elim (λ v. inl (v.0, omega (arith, v.1))) (λ v. inr (v.0, omega (arith, v.1))) y
-
 -- ---- with one word more
 
 module _ (c : Pairs) (s : ℕ → ℕ) {t : ℕ} (l : t < c.m) {b b' e : ℕ} (p : e < c.m) (next : OnlyNext c s t l b b' e) {w n w' n' : ℕ}
     (j : Joined w n (c.word e) w' n') where
-  order : (w < c.word e) ⊎ ((c.word e ≡ w) ⊎ (c.word e < w))
-  order =
-      by_cases (ℕ_discrete (c.word e) w) (λ x. inr (inl x)) (λ x. by_cases (dec_lt w (c.word e)) inl (λ y. inr (inr (omega (arith, x)))))
-
-  pub common_joined : Common c s t b' w n → Common c s t b w' n'
-  common_joined r = by_cases (ℕ_discrete n 0) none (λ z. ⊎_elim (larger z) (⊎_elim (same z) (smaller z)) order)
-    where
-      none : n ≡ 0 → Common c s t b w' n'
-      none z = let y = j.first z in rw (y.0, y.1) (common_first l p next r z)
-
-      same : n ≢ 0 → c.word e ≡ w → Common c s t b w' n'
-      same z x = let y = j.same z x in rw (y.0, y.1) (common_same l p next r z x)
-
-      larger : n ≢ 0 → w < c.word e → Common c s t b w' n'
-      larger z x = rw (j.more z x).1 (common_many)
-
-      smaller : n ≢ 0 → c.word e < w → Common c s t b w' n'
-      smaller z x = rw (j.less z x).1 (common_many)
-
   pub weighed_joined : Weighed c s t b' w n → (g : ℕ → ℕ) → Followed c s e t g → Weighed c s t b w' n'
-  weighed_joined r g f = by_cases (ℕ_discrete n 0) none (λ z. ⊎_elim (larger z) (⊎_elim (same z) (smaller z)) order)
+  weighed_joined r g f = by_cases (ℕ_discrete n 0) none (λ z. ⊎_elim (larger z) (⊎_elim (same z) (smaller z)) (word_order w (c.word e)))
     where
       none : n ≡ 0 → Weighed c s t b w' n'
       none z = let y = j.first z in rw (y.0, y.1) (weighed_first l p next r f z)
@@ -247,14 +184,7 @@ module _ (c : Pairs) (s : ℕ → ℕ) {t : ℕ} (l : t < c.m) {b b' e : ℕ} (p
       smaller : n ≢ 0 → c.word e < w → Weighed c s t b w' n'
       smaller z x = let y = j.less z x in rw (y.0, y.1) (weighed_smaller l p next r f z x)
 
--- the turns of the two loops
-pub common_also : {c : Pairs} {s : ℕ → ℕ} {t : ℕ} (l : t < c.m) {b b' e : ℕ} (p : e < c.m) (next : OnlyNext c s t l b b' e)
-    {w n w' n' : ℕ}
-    → Common c s t b' w n
-    → ((((c.m ≤ s e) ⊎ (s e ≡ t)) → ⊥) × (w' ≡ w) × (n' ≡ n)) ⊎ Joined w n (c.word e) w' n' → Common c s t b w' n'
-common_also {c} {s} {t} l {b} {b'} {e} p next {w} {n} r (inl (x, y, z)) = rw (y, z) (common_not l p next r (λ v. x v.1))
-common_also {c} {s} {t} l {b} {b'} {e} p next {w} {n} {w'} {n'} r (inr j) = common_joined c s l p next j r
-
+-- a turn of the loop
 pub weighed_also : {c : Pairs} {s : ℕ → ℕ} {t : ℕ} (l : t < c.m) {b b' e : ℕ} (p : e < c.m) (next : OnlyNext c s t l b b' e)
     {w n w' n' : ℕ}
     → Weighed c s t b' w n
@@ -292,12 +222,17 @@ module _ {c : Pairs} {b : Progress} {t : ℕ} (i : Inside c) (k : Closed c (nth 
   pub choose_one : {w j : ℕ} → Common c (nth b.put) t 0 w j → j ≡ 1 → Chooses c b (pick_of t w) 0 b true
   choose_one {w} r z = chooses_same k h (rw z at r)
 
-  module _ {m : Progress} {w j : ℕ} (g : Kept c b m × Weighed c (nth b.put) t 0 w j) where
-    pub choose_weighed_none : j ≡ 0 → Chooses c b (pick_of t 0) 0 m false
-    choose_weighed_none z = chooses_none (omega arith) g.0.shape (none_there i k l (g.1.none z))
+  pub choose_weighed_none : {m : Progress} {w j : ℕ} → Kept c b m × Weighed c (nth b.put) t 0 w j → j ≡ 0 → Chooses c b (pick_of t 0) 0 m false
+  choose_weighed_none g z = chooses_none (omega arith) g.0.shape (none_there i k l (g.1.none z))
 
-    pub choose_kept : j ≢ 0 → (a : Progress) (ok : Bool) → DropsAll c m (pick_of t w) a ok → Chooses c b (pick_of t w) (j - 1) a ok
-    choose_kept z a ok d = chooses_tried l g.1 (omega (arith, z)) (from d)
-      where
-        from : DropsAll c m (pick_of t w) a ok → DropsAll c b (pick_of t w) a ok
-        from d = record { shape = d.shape; good = λ x. rw g.0.same at (d.good x); bad = λ x. rw g.0.same at (d.bad x) }
+  module _ {m : Progress} {w j : ℕ} (g : Kept c b m × Weighed c (nth b.put) t 0 w (suc j)) {a : Progress} where
+    from : {ok : Bool} → DropsAll c m (pick_of t w) a ok → Chooses c b (pick_of t w) (suc j - 1) a ok
+    from d =
+        chooses_tried l g.1 (omega arith)
+        (record { shape = d.shape; good = λ x. rw g.0.same at (d.good x); bad = λ x. rw g.0.same at (d.bad x) })
+
+    pub choose_kept : DropsAll c m (pick_of t w) a true → Chooses c b (pick_of t w) j a true
+    choose_kept d = let less : suc j - 1 ≡ j = omega arith in rw less at (from d)
+
+    pub choose_clash : DropsAll c m (pick_of t w) a false → Chooses c b (pick_of t 0) 0 a false
+    choose_clash d = chooses_none (omega arith) d.shape ((from d).bad refl)

@@ -1,23 +1,20 @@
 -- What choosing the words of the places comes to. No reader has to believe these.
---   Joined a n w a' n'     == the words of which a is the least and n how many, none (0), one (1) or more (2), with the word w
 --   Kept                   == the places are as they were
 --   Tries                  == the word of entry e joins if e can stand at t, found by trying
 --   Weighed                == the words of the entries of t that can stand there: how many, and the least
 --   Picked                   == a place and the word that is picked for it
 --   Drops, DropsAll        == entries of other words than the picked are gone from its place
+--   chosen_word, chosen_more == what the choice at a place says: its word, and how many choices were free
+--   all_choices            == how many choices of all places were free
 --   Chooses, ChoosesAll    == the word of a place, and of every place, is decided, or there is no arrangement
 -- Assumes nothing.
-use Rattle.std.specs.Prelude.{◌≡◌, Bool, true, false, List, ◌≢◌, ◌⊎◌, ℕ, ◌-◌, ◌<◌, length}
+use Rattle.std.specs.Prelude.{◌≡◌, Bool, true, false, List, ◌⊎◌, ℕ, ◌-◌, ◌<◌, length, Result, Ok, Err}
 use Rattle.pair_theory.specs.Arranged.{Pairs, Arranged}
 use Rattle.pair_theory.specs.Chosen.{Agrees, Closed, Possible, HasWord, Refuted, Followed, Seen, TriedFrom, Cleared, WordChosen, Upto, NoBuild}
+use Rattle.pair_following.specs.Common.{Joined}
 use Rattle.pair_following.specs.Following.{nth, Progress, Trail}
-
--- a word more, among words of which a is the least and n how many: none, one or more
-pub record Joined (a n w a' n' : ℕ) : Type 0 where
-  pub first : n ≡ 0 → (a' ≡ w) × (n' ≡ 1)
-  pub same : n ≢ 0 → w ≡ a → (a' ≡ a) × (n' ≡ n)
-  pub less : n ≢ 0 → w < a → (a' ≡ w) × (n' ≡ 2)
-  pub more : n ≢ 0 → a < w → (a' ≡ a) × (n' ≡ 2)
+use Rattle.pair_following.specs.declared.Clashed.{Clashed}
+use Rattle.pair_choosing.specs.declared.PlaceChoice.{PlaceChoice}
 
 -- the least of some words, and how many: none, one or more
 pub record Least : Type 0 where
@@ -69,6 +66,19 @@ pub record DropsAll (c : Pairs) (b : Progress) (k : Picked) (a : Progress) (ok :
   pub shape : Trail c.m a
   pub good : ok ≡ true → Cleared c (nth b.put) k.place 0 k.word (nth a.put)
   pub bad : ok ≡ false → (σ : ℕ → ℕ) → Arranged c σ → Agrees c (nth b.put) σ → Picks c σ k → ⊥
+
+-- what a choice says: where it clashed there is no word, and no choice was free
+abbrev pub chosen_word : Result PlaceChoice Clashed → ℕ
+chosen_word (Ok x) = x.word
+chosen_word (Err clash) = 0
+
+abbrev pub chosen_more : Result PlaceChoice Clashed → ℕ
+chosen_more (Ok x) = x.more
+chosen_more (Err clash) = 0
+
+abbrev pub all_choices : Result ℕ Clashed → ℕ
+all_choices (Ok x) = x
+all_choices (Err clash) = 0
 
 -- the word of the place is decided, of one or more (1), or there is no arrangement
 pub record Chooses (c : Pairs) (b : Progress) (k : Picked) (more : ℕ) (a : Progress) (ok : Bool) : Type 0 where

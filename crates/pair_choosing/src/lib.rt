@@ -3,346 +3,195 @@
 // lists and made one list of them.
 #![tactic(auto)]
 
-ghost use Rattle.std.specs.Prelude.{◌≡◌, ◌⊎◌, ◌<◌, ◌^◌, length};
+ghost use Rattle.std.specs.Prelude.{◌≡◌, ◌<◌, length, is_ok};
 ghost use Rattle.pair_theory.specs.Arranged.{HasPlace};
 ghost use Rattle.pair_theory.specs.Chosen.{Closed, Upto};
-ghost use Rattle.pair_following.specs.Following.{nth, count_in, word_in, pairs_of, HoldsPairs, Links, progress_of, Ready, CanStand, Attempt};
-ghost use Rattle.pair_following.specs.Common.{Common};
-ghost use Rattle.pair_choosing.specs.Choosing.{Joined, least_of, Kept, Tries, Weighed, pick_of, Drops, DropsAll, Chooses, ChoosesAll};
+ghost use Rattle.pair_following.specs.Following.{nth, count_in, pairs_in, progress_in, Ready, Attempt};
+ghost use Rattle.pair_following.specs.Common.{one_in, many_in};
+ghost use Rattle.pair_choosing.specs.Choosing.{least_of, Kept, Tries, Weighed, pick_of, Drops, DropsAll, Chooses, ChoosesAll};
+ghost use Rattle.pair_choosing.specs.Choosing.{chosen_word, chosen_more, all_choices};
 
-use pair_following::Step;
-
-// The words that can stand at a place: the smallest so far, and how many: none (0), one (1), or more (2).
-#[derive(Clone, Copy)]
-pub struct Words {
-    pub least: u32,
-    pub many: usize,
-}
-
-// The words w with one word more.
-fn with_word(s: Words, w: u32) -> Words
-    ensures { Joined s.least s.many w result.least result.many }
-{
-    if s.many == 0 {
-        return Words { least: w, many: 1 };
-    }
-    if w == s.least {
-        return Words {
-            least: w,
-            many: s.many,
-        };
-    }
-    if w < s.least {
-        return Words { least: w, many: 2 };
-    }
-    Words {
-        least: s.least,
-        many: 2,
-    }
-}
-
-// The words s, with that of entry e if it can still come to stand at t.
-fn with_possible(card: &[usize], put: &[usize], e: usize, t: usize, s: Words) -> Words
-    requires { (e < count_in card.now)
-        × (word_in card.now e < 2 ^ 32)
-        × (length put.now ≡ count_in card.now) }
-    ensures { ((CanStand (count_in card.now) put.now e t → ⊥) × (result.least ≡ s.least) × (result.many ≡ s.many))
-        ⊎ Joined s.least s.many (word_in card.now e) result.least result.many }
-{
-    if pair_following::possible(put, e, t) {
-        return with_word(s, pair_following::word_of(card, e));
-    }
-    s
-}
-
-// The words of the entries that can still come to stand at t.
-fn words_at(card: &[usize], mask: u32, put: &[usize], t: usize) -> Words
-    requires { (t < count_in card.now)
-        × (length put.now ≡ count_in card.now)
-        × HoldsPairs card.now mask
-        × Links card.now }
-    ensures { Common (pairs_of card.now mask) (nth put.now) t 0 result.least result.many }
-{
-    let mut s = Words { least: 0, many: 0 };
-    let mut k = pair_following::last_slot(card, t);
-    while k > 0 {
-        let x = k - 1;
-        s = with_possible(card, put, x / 2, t, s);
-        k = pair_following::slot_before(card, x);
-    }
-    s
-}
+use pair_following::{Clashed, Found, Key, PairCard, Placed};
 
 // Whether entry e can stand at t, found by trying; the places stay as they are.
-fn can_stand_at(
-    card: &[usize],
-    mask: u32,
-    put: &mut [usize],
-    trail: &mut [usize],
-    n: usize,
-    e: usize,
-    t: usize,
-) -> bool
-    requires ready { Ready card.now mask (progress_of put.old trail.old n) }
-    requires closed { Closed (pairs_of card.now mask) (nth put.old) }
-    requires allowed { (e < count_in card.now) × (t < count_in card.now) × HasPlace (pairs_of card.now mask) e t }
+fn can_stand_at(pairs: &PairCard, placed: &mut Placed, e: usize, t: usize) -> bool
+    requires ready { Ready pairs.now.card.now pairs.now.mask (progress_in placed.old) }
+    requires closed { Closed (pairs_in pairs.now) (nth placed.old.put.now) }
+    requires allowed { (e < count_in pairs.now.card.now) × (t < count_in pairs.now.card.now) × HasPlace (pairs_in pairs.now) e t }
     ensures { Attempt
-        (pairs_of card.now mask)
-        (progress_of put.old trail.old n)
+        (pairs_in pairs.now)
+        (progress_in placed.old)
         e
         t
-        (progress_of put.new trail.new n)
+        (progress_in placed.new)
         result }
 {
-    let p = put[e];
+    let p = placed.put[e];
     if p == t {
         return true;
     }
-    if p < put.len() {
+    if p < placed.put.len() {
         return false;
     }
-    pair_following::attempt(card, mask, put, trail, n, e, t)
+    pairs.attempt(placed, e, t)
 }
 
 // The words s, with that of entry e if it can stand at t, found by trying.
-fn with_tried(
-    card: &[usize],
-    mask: u32,
-    put: &mut [usize],
-    trail: &mut [usize],
-    n: usize,
-    e: usize,
-    t: usize,
-    s: Words,
-) -> Words
-    requires ready { Ready card.now mask (progress_of put.old trail.old n) }
-    requires closed { Closed (pairs_of card.now mask) (nth put.old) }
-    requires allowed { (e < count_in card.now) × (t < count_in card.now) × HasPlace (pairs_of card.now mask) e t }
-    ensures { Kept (pairs_of card.now mask)
-        (progress_of put.old trail.old n)
-        (progress_of put.new trail.new n)
-        × Tries (pairs_of card.now mask) (nth put.old) e t (least_of s.least s.many) (least_of result.least result.many) }
+fn with_tried(pairs: &PairCard, placed: &mut Placed, e: usize, t: usize, s: Found) -> Found
+    requires ready { Ready pairs.now.card.now pairs.now.mask (progress_in placed.old) }
+    requires closed { Closed (pairs_in pairs.now) (nth placed.old.put.now) }
+    requires allowed { (e < count_in pairs.now.card.now) × (t < count_in pairs.now.card.now) × HasPlace (pairs_in pairs.now) e t }
+    ensures { Kept (pairs_in pairs.now)
+        (progress_in placed.old)
+        (progress_in placed.new)
+        × Tries (pairs_in pairs.now) (nth placed.old.put.now) e t (least_of (one_in s) (many_in s)) (least_of (one_in result) (many_in result)) }
 {
-    if can_stand_at(card, mask, put, trail, n, e, t) {
-        return with_word(s, pair_following::word_of(card, e));
+    if can_stand_at(pairs, placed, e, t) {
+        let word = pairs.word_of(e) as usize;
+        return pair_following::with_number(s, word);
     }
     s
 }
 
 // The words of the entries that can stand at t, found by trying each.
-fn weigh(
-    card: &[usize],
-    mask: u32,
-    put: &mut [usize],
-    trail: &mut [usize],
-    n: usize,
-    t: usize,
-) -> Words
-    requires ready { Ready card.now mask (progress_of put.old trail.old n) }
-    requires closed { Closed (pairs_of card.now mask) (nth put.old) }
-    requires t_bound { t < count_in card.now }
-    ensures { Kept (pairs_of card.now mask)
-        (progress_of put.old trail.old n)
-        (progress_of put.new trail.new n)
-        × Weighed (pairs_of card.now mask) (nth put.old) t 0 result.least result.many }
+fn weigh(pairs: &PairCard, placed: &mut Placed, t: usize) -> Found
+    requires ready { Ready pairs.now.card.now pairs.now.mask (progress_in placed.old) }
+    requires closed { Closed (pairs_in pairs.now) (nth placed.old.put.now) }
+    requires t_bound { t < count_in pairs.now.card.now }
+    ensures { Kept (pairs_in pairs.now)
+        (progress_in placed.old)
+        (progress_in placed.new)
+        × Weighed (pairs_in pairs.now) (nth placed.old.put.now) t 0 (one_in result) (many_in result) }
 {
-    let mut s = Words { least: 0, many: 0 };
-    let mut k = pair_following::last_slot(card, t);
+    let mut s = Found::None;
+    // The list of a place is linked, so no range has its slots.
+    let mut k = pairs.last_slot(t);
     while k > 0 {
         let x = k - 1;
-        s = with_tried(card, mask, put, trail, n, x / 2, t, s);
-        k = pair_following::slot_before(card, x);
+        s = with_tried(pairs, placed, x / 2, t, s);
+        k = pairs.slot_before(x);
     }
     s
 }
 
 // Sends entry e from t to its other place, unless it has the word w.
 fn send_off(
-    card: &[usize],
-    mask: u32,
-    put: &mut [usize],
-    trail: &mut [usize],
-    n: usize,
+    pairs: &PairCard,
+    placed: &mut Placed,
     t: usize,
     w: u32,
     e: usize,
-) -> Step
-    requires ready { Ready card.now mask (progress_of put.old trail.old n) }
-    requires closed { Closed (pairs_of card.now mask) (nth put.old) }
-    requires allowed { (e < count_in card.now) × (t < count_in card.now) × HasPlace (pairs_of card.now mask) e t }
+) -> Result<(), Clashed>
+    requires ready { Ready pairs.now.card.now pairs.now.mask (progress_in placed.old) }
+    requires closed { Closed (pairs_in pairs.now) (nth placed.old.put.now) }
+    requires allowed { (e < count_in pairs.now.card.now) × (t < count_in pairs.now.card.now) × HasPlace (pairs_in pairs.now) e t }
     ensures { Drops
-        (pairs_of card.now mask)
-        (progress_of put.old trail.old n)
+        (pairs_in pairs.now)
+        (progress_in placed.old)
         e
         (pick_of t w)
-        (progress_of put.new trail.new result.n)
-        result.ok }
+        (progress_in placed.new)
+        (is_ok result) }
 {
-    if pair_following::word_of(card, e) == w {
-        return Step { n, ok: true };
+    if pairs.word_of(e) == w {
+        return Ok(());
     }
-    let p = put[e];
+    let p = placed.put[e];
     if p == t {
-        return Step { n, ok: false };
+        return Err(Clashed);
     }
-    if p < put.len() {
-        return Step { n, ok: true };
+    if p < placed.put.len() {
+        return Ok(());
     }
-    let q = pair_following::other(card, e, t);
+    let q = pairs.other(e, t);
     if q == t {
-        return Step { n, ok: false };
+        return Err(Clashed);
     }
-    pair_following::follow(card, mask, put, trail, n, e, q)
+    pairs.follow(placed, e, q)
 }
 
 // Leaves only entries of the word w at t.
-fn keep_word(
-    card: &[usize],
-    mask: u32,
-    put: &mut [usize],
-    trail: &mut [usize],
-    n: usize,
-    t: usize,
-    w: u32,
-) -> Step
-    requires ready { Ready card.now mask (progress_of put.old trail.old n) }
-    requires closed { Closed (pairs_of card.now mask) (nth put.old) }
-    requires t_bound { t < count_in card.now }
+fn keep_word(pairs: &PairCard, placed: &mut Placed, t: usize, w: u32) -> Result<(), Clashed>
+    requires ready { Ready pairs.now.card.now pairs.now.mask (progress_in placed.old) }
+    requires closed { Closed (pairs_in pairs.now) (nth placed.old.put.now) }
+    requires t_bound { t < count_in pairs.now.card.now }
     ensures { DropsAll
-        (pairs_of card.now mask)
-        (progress_of put.old trail.old n)
+        (pairs_in pairs.now)
+        (progress_in placed.old)
         (pick_of t w)
-        (progress_of put.new trail.new result.n)
-        result.ok }
+        (progress_in placed.new)
+        (is_ok result) }
 {
-    let mut far = n;
-    let mut k = pair_following::last_slot(card, t);
+    // The list of a place is linked, so no range has its slots.
+    let mut k = pairs.last_slot(t);
     while k > 0 {
         let x = k - 1;
-        let g = send_off(card, mask, put, trail, far, t, w, x / 2);
-        if g.ok {
-            far = g.n;
-            k = pair_following::slot_before(card, x);
-        } else {
-            return g;
-        }
+        send_off(pairs, placed, t, w, x / 2)?;
+        k = pairs.slot_before(x);
     }
-    Step { n: far, ok: true }
+    Ok(())
 }
 
-// The word of a place, whether another could have been there (1) or not (0), and the trail; not ok where there is no build.
+// The word of a place, and how many choices of it were free, one or none.
 #[derive(Clone, Copy)]
 pub struct PlaceChoice {
-    pub n: usize,
-    pub ok: bool,
     pub word: u32,
     pub more: usize,
 }
 
 // Decides the word at t: the smallest that can be there.
-fn choose(
-    card: &[usize],
-    mask: u32,
-    put: &mut [usize],
-    trail: &mut [usize],
-    n: usize,
-    t: usize,
-) -> PlaceChoice
-    requires ready { Ready card.now mask (progress_of put.old trail.old n) }
-    requires closed { Closed (pairs_of card.now mask) (nth put.old) }
-    requires t_bound { t < count_in card.now }
+fn choose(pairs: &PairCard, placed: &mut Placed, t: usize) -> Result<PlaceChoice, Clashed>
+    requires ready { Ready pairs.now.card.now pairs.now.mask (progress_in placed.old) }
+    requires closed { Closed (pairs_in pairs.now) (nth placed.old.put.now) }
+    requires t_bound { t < count_in pairs.now.card.now }
     ensures { Chooses
-        (pairs_of card.now mask)
-        (progress_of put.old trail.old n)
-        (pick_of t result.word)
-        result.more
-        (progress_of put.new trail.new result.n)
-        result.ok }
+        (pairs_in pairs.now)
+        (progress_in placed.old)
+        (pick_of t (chosen_word result))
+        (chosen_more result)
+        (progress_in placed.new)
+        (is_ok result) }
 {
-    let a = words_at(card, mask, put, t);
-    if a.many == 0 {
-        return PlaceChoice {
-            n,
-            ok: false,
-            word: 0,
-            more: 0,
-        };
+    match pairs.found_at(placed, t, Key::Word) {
+        Found::None => return Err(Clashed),
+        Found::One(least) => {
+            let word = least as u32;
+            return Ok(PlaceChoice { word, more: 0 });
+        }
+        Found::More(_) => {}
     }
-    if a.many == 1 {
-        return PlaceChoice {
-            n,
-            ok: true,
-            word: a.least,
-            more: 0,
-        };
-    }
-    let b = weigh(card, mask, put, trail, n, t);
-    if b.many == 0 {
-        return PlaceChoice {
-            n,
-            ok: false,
-            word: 0,
-            more: 0,
-        };
-    }
-    let g = keep_word(card, mask, put, trail, n, t, b.least);
-    PlaceChoice {
-        n: g.n,
-        ok: g.ok,
-        word: b.least,
-        more: b.many - 1,
-    }
+    let (least, more) = match weigh(pairs, placed, t) {
+        Found::None => return Err(Clashed),
+        Found::One(least) => (least, 0),
+        Found::More(least) => (least, 1),
+    };
+    let word = least as u32;
+    keep_word(pairs, placed, t, word)?;
+    Ok(PlaceChoice { word, more })
 }
 
-// How far the trail goes, whether there may be a build, and how many choices of words it has.
-#[derive(Clone, Copy)]
-pub struct AllChoices {
-    pub n: usize,
-    pub ok: bool,
-    pub choices: usize,
-}
-
-// Decides the words place by place, from the left.
+// Decides the words place by place, from the left; the answer is how many choices of words were free.
 pub fn choose_all(
-    card: &[usize],
-    mask: u32,
-    put: &mut [usize],
-    trail: &mut [usize],
-    n: usize,
+    pairs: &PairCard,
+    placed: &mut Placed,
     words: &mut [u32],
-) -> AllChoices
-    requires ready { Ready card.now mask (progress_of put.old trail.old n) }
-    requires closed { Closed (pairs_of card.now mask) (nth put.old) }
-    requires words_len { length words.old ≡ count_in card.now }
-    requires upto { Upto (pairs_of card.now mask) (nth put.old) 0 (nth words.old) 0 }
+) -> Result<usize, Clashed>
+    requires ready { Ready pairs.now.card.now pairs.now.mask (progress_in placed.old) }
+    requires closed { Closed (pairs_in pairs.now) (nth placed.old.put.now) }
+    requires words_len { length words.old ≡ count_in pairs.now.card.now }
+    requires upto { Upto (pairs_in pairs.now) (nth placed.old.put.now) 0 (nth words.old) 0 }
     ensures { ChoosesAll
-        (pairs_of card.now mask)
-        (progress_of put.new trail.new result.n)
-        result.ok
-        result.choices
+        (pairs_in pairs.now)
+        (progress_in placed.new)
+        (is_ok result)
+        (all_choices result)
         words.new }
 {
-    let mut far = n;
     let mut choices: usize = 0;
-    let mut t = 0;
-    while t < put.len() {
-        let g = choose(card, mask, put, trail, far, t);
-        if g.ok {
-            far = g.n;
-            choices += g.more;
-            words[t] = g.word;
-            t += 1;
-        } else {
-            return AllChoices {
-                n: g.n,
-                ok: false,
-                choices: 0,
-            };
-        }
+    for t in 0..placed.put.len() {
+        let g = choose(pairs, placed, t)?;
+        choices += g.more;
+        words[t] = g.word;
     }
-    AllChoices {
-        n: far,
-        ok: true,
-        choices,
-    }
+    Ok(choices)
 }

@@ -1,16 +1,16 @@
 -- Laws of two entries, of which a placed one excludes the other from a place, or not. Assumes nothing.
 use mathlib.Core.Path.{◌≡◌, refl, sym, ap, ◌∙◌}
-use mathlib.Core.Bool.{Bool, true, false, true≢false}
+use mathlib.Core.Bool.{true, true≢false}
 use mathlib.Core.List.{List, [], ◌∷◌}
 use mathlib.Core.Logic.{◌≢◌, ◌⊎◌, inl, inr, ⊎_elim, by_cases}
-use Prim.Native.Nat.{ℕ, zero, suc, ◌+◌, ◌-◌, ◌*◌, ◌<◌, ◌≤◌, ◌^◌}
+use Prim.Native.Nat.{ℕ, zero, suc, ◌+◌, ◌-◌, ◌*◌, ◌<◌, ◌≤◌}
 use native.Mathlib.Omega.{arith}
 use native.Mathlib.Decide.{ℕ_discrete, dec_lt}
 use lib.ListN.{length, get_or, set, replicate, length-set}
 use borrow.Author.Tests.{lt-ltb, le-ltb}
 use Rattle.pair_theory.specs.Arranged.{Pairs, Inside, HasPlace, Goes, Arranged}
 use Rattle.pair_theory.specs.Chosen.{Agrees, Seen}
-use Rattle.pair_following.specs.Following.{nth, count_in, place_in, word_in, pairs_of, HoldsPairs, Progress, with_put, Trail, unplaced}
+use Rattle.pair_following.specs.Following.{nth, count_in, place_in, pairs_of, HoldsPairs, Progress, with_put, Trail, unplaced}
 use Rattle.pair_following.specs.Following.{Free, Traced, Forced, Clash, Decides, Grown}
 use Rattle.pair_following.proofs.TrailLaws.{put_here, put_there, put_on, put_behind, traced_put}
 
@@ -35,26 +35,9 @@ pub excluded : {c : Pairs} {s σ : ℕ → ℕ} {e f q : ℕ} → e < c.m → f 
     → Agrees c s σ → σ f ≢ q
 excluded {e} {f} p fp d h n a g x = n (rw (g e p h, x) at (a.goes e f p fp d))
 
--- ---- the test of two entries, by its four outcomes
+-- ---- two entries that are not next to one another
 
 module _ {c : Pairs} {e p f q : ℕ} where
-  pub goes_same : p ≡ q → Decides (Goes c e p f q) false
-  goes_same h = record { yes = λ x. absurd (true≢false (sym x)); no = λ _ g. g.apart h }
-
-  pub goes_on : p ≢ q → q ≡ p + 1 → {r : Bool} → Decides (c.tail e ≡ c.head f) r → Decides (Goes c e p f q) r
-  goes_on d h t =
-      record {
-        yes = λ z. record { apart = d; on = λ _. t.yes z; back = λ v. absurd (omega arith) };
-        no = λ z g. t.no z (g.on (omega arith));
-      }
-
-  pub goes_back : p ≢ q → p ≡ q + 1 → {r : Bool} → Decides (c.tail f ≡ c.head e) r → Decides (Goes c e p f q) r
-  goes_back d h t =
-      record {
-        yes = λ z. record { apart = d; on = λ v. absurd (omega arith); back = λ _. t.yes z };
-        no = λ z g. t.no z (g.back (omega arith));
-      }
-
   pub goes_far : p ≢ q → q ≢ p + 1 → p ≢ q + 1 → Decides (Goes c e p f q) true
   goes_far d h k =
       record {
@@ -83,10 +66,6 @@ module _ {card : List ℕ} {mask f : ℕ} (k : HoldsPairs card mask) (fp : f < c
 
   pub two_inside : place_in card (2 * f + 1) < count_in card
   two_inside = k.inside (2 * f + 1) (omega arith)
-
-  -- what `word_of` asks
-  pub word_asks : (f < count_in card) × (word_in card f < 2 ^ 32)
-  word_asks = (fp, k.words f fp)
 
   pub other_inside : {q : ℕ} → HasPlace (pairs_of card mask) f q → other_than (pairs_of card mask) f q < count_in card
   other_inside (inl x) = omega (arith, one_inside, two_inside)

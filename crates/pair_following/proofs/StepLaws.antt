@@ -41,11 +41,3 @@ module _ {c : Pairs} {b a : Progress} {ok : Bool} {A : Type 0} (h : Grown c b a 
   -- the same with more, or less, said
   pub grown_says : {B : Type 0} → (A → B) → Grown c b a ok B
   grown_says f = record { shape = h.shape; traced = h.traced; good = λ x. ((h.good x).0, f (h.good x).1); bad = h.bad }
-
-  -- where nothing clashed
-  pub grown_ok : ok ≡ true → Grown c b a true A
-  grown_ok z = record { shape = h.shape; traced = h.traced; good = λ _. h.good z; bad = λ x. absurd (true≢false x) }
-
-  -- where something clashed
-  pub grown_none : {B : Type 0} → ok ≡ false → Grown c b a ok B
-  grown_none z = record { shape = h.shape; traced = h.traced; good = λ x. absurd (true≢false (sym x ∙ z)); bad = h.bad }

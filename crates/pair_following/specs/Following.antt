@@ -1,7 +1,9 @@
 -- Following what one placement forces, with a trail of the entries placed. No reader has to believe these.
 --   count_in, place_in, prev_in, word_in, last_in == what the list of a card holds
 --   pairs_of card mask     == the entries of that list, by their numbers
+--   pairs_in p             == the same of the struct that the code reads
 --   Progress              == the place of each entry so far, and the trail of those that got one
+--   progress_in p         == the same of the struct that the code reads
 --   Free c s e f q        == entry f at q is no hindrance to entry e at its place: they go together, or f has another place
 --   AllFree c s e         == that of all other entries and their places
 --   FreeFrom c s e q b    == that of the entries of place q from slot b on
@@ -14,6 +16,8 @@ use Rattle.std.specs.Prelude.{◌≡◌, Bool, true, false, cond, List, [], ◌�
 use Rattle.std.specs.Int.Bits.{bit_and}
 use Rattle.pair_theory.specs.Arranged.{Pairs, HasPlace, Goes, Arranged}
 use Rattle.pair_theory.specs.Chosen.{Agrees, Followed, Refuted, Seen}
+use Rattle.pair_following.specs.declared.Placed.{Placed}
+use Rattle.pair_following.specs.declared.PairCard.{PairCard}
 
 -- ---- the card as one list
 
@@ -51,6 +55,9 @@ pairs_of card mask =
       tail = λ e. bit_and (word_in card e) mask;
     }
 
+abbrev pub pairs_in : PairCard → Pairs
+pairs_in p = pairs_of p.card.now p.mask
+
 -- the places are places of the card, and the words have 32 bits
 pub record HoldsPairs (card : List ℕ) (mask : ℕ) : Type 0 where
   pub inside : (x : ℕ) → x < 2 * count_in card → place_in card x < count_in card
@@ -78,6 +85,10 @@ pub record Progress : Type 0 where
 
 abbrev pub progress_of : List ℕ → List ℕ → ℕ → Progress
 progress_of put trail n = record { put = put; trail = trail; n = n }
+
+-- the same of the struct that the code reads
+abbrev pub progress_in : Placed → Progress
+progress_in p = progress_of p.put.now p.trail.now p.n
 
 -- b with entry f at r
 abbrev pub with_put : Progress → ℕ → ℕ → Progress

@@ -1,6 +1,6 @@
 -- Laws of the whole build. No contract cites this file. Assumes nothing.
-use mathlib.Core.Path.{◌≡◌, sym, ap, ◌∙◌}
-use mathlib.Core.Bool.{Bool, true, false, true≢false}
+use mathlib.Core.Path.{◌≡◌, ◌∙◌}
+use mathlib.Core.Bool.{Bool, true}
 use mathlib.Core.List.{List}
 use mathlib.Core.Logic.{by_cases}
 use Prim.Native.Nat.{ℕ, ◌≤◌, ◌<◌}
@@ -8,8 +8,9 @@ use native.Mathlib.Omega.{arith}
 use native.Mathlib.Decide.{dec_lt}
 use lib.ListN.{length, take, replicate, length-replicate, get_or-replicate, get_or-eq_default}
 use lib.Seq.{length-take-le}
+use Rattle.std.specs.Prelude.{Some}
 use Rattle.pair_theory.specs.Arranged.{Pairs, Inside}
-use Rattle.pair_theory.specs.Chosen.{Closed, Upto, NoBuild}
+use Rattle.pair_theory.specs.Chosen.{Closed, Upto}
 use Rattle.pair_following.specs.Following.{nth, count_in, pairs_of, HoldsPairs, Links, Progress, progress_of, Trail, Ready}
 use Rattle.pair_following.proofs.ExclusionLaws.{unplaced_all}
 use Rattle.pair_choosing.specs.Choosing.{ChoosesAll}
@@ -48,13 +49,11 @@ blank_sure {c} = record { closed = blank_closed; every = λ σ a e p h. absurd (
 -- ---- the answer
 
 pub builds_found : {c : Pairs} → Inside c → {a : Progress} {put words : List ℕ} {k : ℕ} {ok ok' : Bool} → ChoosesAll c a ok k words
-    → ok ≡ true → GivesPlaces c a.put put ok' → ok' ≡ true → FindsBuild c words k true
+    → ok ≡ true → GivesPlaces c a.put put ok' → ok' ≡ true → FindsBuild c words (Some k)
 builds_found {c} i {a} {put} {words} {k} g h d h' =
     let y = d.good h' in
-    record { yes = λ _. found c (nth a.put) (nth put) (nth words) k i (g.good h) y.0 y.1; no = λ x. absurd (true≢false x) }
-
-pub builds_none : {c : Pairs} {words : List ℕ} {k : ℕ} → NoBuild c → FindsBuild c words k false
-builds_none h = record { yes = λ x. absurd (true≢false (sym x)); no = λ _. h }
+    let first = found c (nth a.put) (nth put) (nth words) k i (g.good h) y.0 y.1 in
+    record { yes = λ k' x. (let e : k ≡ k' = cc in rw e at first); no = λ x. cc }
 
 -- ---- what the calls ask
 
@@ -62,15 +61,10 @@ builds_none h = record { yes = λ x. absurd (true≢false (sym x)); no = λ _. h
 pub part_all : (l : List ℕ) {n m : ℕ} → n ≤ length l → n ≡ m → length (take n l) ≡ m
 part_all l {n} h e = length-take-le n l h ∙ e
 
-pub begin : {card : List ℕ} {mask : ℕ} (put : List ℕ) {put' trail : List ℕ} (count words : List ℕ) → HoldsPairs card mask → Links card
-    → length put ≡ count_in card → length trail ≡ count_in card → length count ≡ count_in card → length words ≡ count_in card
-    → put' ≡ replicate (length put) (length put)
-    → Ready card mask (progress_of put' trail 0)
-    × (Sure (pairs_of card mask) (nth put') × ((length count ≡ count_in card) × (length words ≡ count_in card)))
-begin {card} put {put'} count words k l a b d f e = rw here (record { holds = k; links = l; shape = blank_trail b }, (blank_sure, (d, f)))
-  where
-    here : put' ≡ replicate (count_in card) (count_in card)
-    here = e ∙ ap (λ (n : ℕ). replicate n n) a
+pub begin : {card : List ℕ} {mask : ℕ} {put trail : List ℕ} → HoldsPairs card mask → Links card
+    → put ≡ replicate (count_in card) (count_in card) → length trail ≡ count_in card
+    → Ready card mask (progress_of put trail 0) × Sure (pairs_of card mask) (nth put)
+begin k l a b = rw a (record { holds = k; links = l; shape = blank_trail b }, blank_sure)
 
 -- after what is forced the words can be decided
 pub forced : {card : List ℕ} {mask : ℕ} {a : Progress} (words : List ℕ) {ok : Bool} → HoldsPairs card mask → Links card

@@ -2,11 +2,12 @@
 -- nothing.
 use mathlib.Core.Path.{◌≡◌, refl, sym, ap, ◌∙◌}
 use mathlib.Core.Logic.{◌⊎◌, inl, inr, ⊎_map, ⊎_elim}
-use mathlib.Core.Bool.{Bool, true, false, cond}
+use mathlib.Core.Bool.{cond}
 use mathlib.Core.List.{List}
 use Prim.Native.Nat.{ℕ, suc, ◌+◌, ◌*◌, ◌-◌, ◌/◌, ◌^◌, ◌≤◌, ◌<◌}
 use native.Mathlib.Nat.{pow-le-pow_right}
 use native.Mathlib.Omega.{arith}
+use Rattle.std.specs.Prelude.{Option, Some, None}
 use lib.Dec.{eqb}
 use lib.ListN.{length, get_or, length-map}
 use Rattle.base_lists.proofs.RowLaws.{length_row, map_row, row_at}
@@ -121,18 +122,18 @@ module _ {l : ℕ} {words ones twos : List ℕ} (k : PairLists l words ones twos
 
   -- ---- the verdict
 
-  pub gives : {ws : List ℕ} {n : ℕ} {found : Bool} → length ws ≡ length words → FindsBuild (pairs_of card mask) ws n found
-      → Gives l (entries_in words ones twos) found n ws
-  gives {ws} {n} {found} all b =
+  pub gives : {ws : List ℕ} {choices : Option ℕ} → length ws ≡ length words → FindsBuild (pairs_of card mask) ws choices
+      → Gives l (entries_in words ones twos) choices ws
+  gives {ws} {choices} all b =
       record {
-        worded = λ h. found_worded described ws n (all ∙ sym many) (b.yes h);
-        told = λ h. found_tells described ws n (all ∙ sym many) (b.yes h);
-        many = counted found refl;
+        worded = λ n h. found_worded described ws n (all ∙ sym many) (b.yes n h);
+        told = λ n h. found_tells described ws n (all ∙ sym many) (b.yes n h);
+        many = counted choices refl;
       }
     where
-      counted : (f : Bool) → found ≡ f → Many (Build l (pair_entries (entries_in words ones twos))) (how_many (power_by f n))
-      counted true h = found_many described ws n (b.yes h)
-      counted false h = many_none (none_tells described (b.no h))
+      counted : (o : Option ℕ) → choices ≡ o → Many (Build l (pair_entries (entries_in words ones twos))) (how_many (power_by o))
+      counted (Some n) h = found_many described ws n (b.yes n h)
+      counted None h = many_none (none_tells described (b.no h))
 
 -- the lists of m entries have room in those of as many as a card may have
 pub six_fit : {m : ℕ} → m ≤ most_entries → 6 * m ≤ 6 * most_entries

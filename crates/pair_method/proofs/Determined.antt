@@ -2,9 +2,9 @@
 -- determines its answer, and the words of the build where it gives one.
 -- `Post` is the contract as it is read from the source. Assumes nothing.
 use mathlib.Core.Path.{◌≡◌, refl, sym, ap, ◌∙◌}
-use mathlib.Core.Bool.{Bool, true, false}
 use mathlib.Core.List.{List, []}
 use Prim.Native.Nat.{ℕ, zero, suc, ◌^◌, ◌<◌}
+use Rattle.std.specs.Prelude.{Option, Some, None}
 use contract.Lifetimes.{Lfts}
 use denote.Triple.Clauses.{AtExit}
 use borrow.Fn.Kinds.{Dens, res_t, ended_of}
@@ -14,7 +14,6 @@ use Rattle.card_entries.specs.declared.Slot.{Slot}
 use Rattle.base_lists.specs.Members.{In}
 use Rattle.build_sequence.specs.Build.{spell, Build}
 use Rattle.build_sequence.specs.Verdict.{Verdict, sole, several, no_build, Tells}
-use Rattle.build_sequence.specs.Many.{Many}
 use Rattle.build_sequence.proofs.BuildLaws.{worded_one}
 use Rattle.build_sequence.proofs.ManyLaws.{many_one, many_empty, exponent_one}
 use Rattle.build_sequence.proofs.VerdictLaws.{tells_one}
@@ -47,54 +46,40 @@ told_fits : (Fits : List ℕ → Type 0) (k : ℕ) (s : List ℕ) → Tells Fits
 told_fits Fits zero s t = t.0
 told_fits Fits (suc k) s t = t.0
 
-found_too : (f f' : Bool) {l k k' : ℕ} {es : List Slot} {ws vs : List ℕ} → Gives l es f k ws → Gives l es f' k' vs → f ≡ f'
-found_too true true p q = refl
-found_too true false {l} {k} {es} {ws} p q =
-    absurd (many_empty q.many (spell l ws) (told_fits (Build l (pair_entries es)) k (spell l ws) (p.told refl)))
-found_too false true {l} {k'} {es} {vs} p q =
-    absurd (many_empty p.many (spell l vs) (told_fits (Build l (pair_entries es)) k' (spell l vs) (q.told refl)))
-found_too false false p q = refl
+pub gives_found : (r r' : Option ℕ) {l : ℕ} {es : List Slot} {ws vs : List ℕ} → Gives l es r ws → Gives l es r' vs → r ≡ r'
+gives_found None None p q = refl
+gives_found (Some k) None {l} {es} {ws} p q =
+    absurd (many_empty q.many (spell l ws) (told_fits (Build l (pair_entries es)) k (spell l ws) (p.told k refl)))
+gives_found None (Some k) {l} {es} {ws} {vs} p q =
+    absurd (many_empty p.many (spell l vs) (told_fits (Build l (pair_entries es)) k (spell l vs) (q.told k refl)))
+gives_found (Some k) (Some k') p q = ap (λ n. Some n) (exponent_one k k' (many_one p.many q.many))
 
 -- ---- two outcomes are one
 
-module _ {l k k' : ℕ} {es : List Slot} {f f' : Bool} {ws vs : List ℕ} (admitted : (e : Entry) → In e (pair_entries es) → e.word < 4 ^ l)
-    (p : Gives l es f k ws) (q : Gives l es f' k' vs) where
-  pub gives_found : f ≡ f'
-  gives_found = found_too f f' p q
+module _ {l : ℕ} {es : List Slot} {r r' : Option ℕ} {ws vs : List ℕ} (admitted : (e : Entry) → In e (pair_entries es) → e.word < 4 ^ l)
+    (p : Gives l es r ws) (q : Gives l es r' vs) where
+  pub gives_words : (k : ℕ) → r ≡ Some k → ws ≡ vs
+  gives_words k h =
+      let h' : r' ≡ Some k = sym (gives_found r r' p q) ∙ h in
+      let same = tells_one (Build l (pair_entries es)) (verdict_by k (spell l ws)) (verdict_by k (spell l vs)) (p.told k h) (q.told k h') in
+      worded_one admitted (p.worded k h) (q.worded k h')
+      (sym (spelled_in_lem k (spell l ws)) ∙ ap spelled_in same ∙ spelled_in_lem k (spell l vs))
 
-  same : f ≡ true → verdict_by k (spell l ws) ≡ verdict_by k' (spell l vs)
-  same h =
-      tells_one (Build l (pair_entries es)) (verdict_by k (spell l ws)) (verdict_by k' (spell l vs)) (p.told h) (q.told (sym gives_found ∙ h))
-
-  gives_choices : f ≡ true → k ≡ k'
-  gives_choices h =
-      let a : Many (Build l (pair_entries es)) (2 ^ k) = rw h at p.many in
-      let b : Many (Build l (pair_entries es)) (2 ^ k') = rw (sym gives_found ∙ h) at q.many in
-      exponent_one k k' (many_one a b)
-
-  pub gives_words : f ≡ true → ws ≡ vs
-  gives_words h =
-      worded_one admitted (p.worded h) (q.worded (sym gives_found ∙ h))
-      (sym (spelled_in_lem k (spell l ws)) ∙ ap spelled_in (same h) ∙ spelled_in_lem k' (spell l vs))
-
-pub pair_one : (κs : Lfts 4) (a : Dens κs pair_kinds.ps) (r r' : (res_t pair_kinds.r κs).Denot)
-    (e e' : AtExit (ended_of 4 pair_kinds.ps pair_kinds.r) κs)
+pub pair_one : (κs : Lfts 3) (a : Dens κs pair_kinds.ps) (r r' : (res_t pair_kinds.r κs).Denot)
+    (e e' : AtExit (ended_of 3 pair_kinds.ps pair_kinds.r) κs)
     → pair_reads.Pre κs a
     → pair_reads.Post κs a r e
     → pair_reads.Post κs a r' e'
-    → (r.found ≡ r'.found)
-    × (r.found ≡ true → r.choices ≡ r'.choices)
-    × (r.found ≡ true → take (length a.1.0.now) e.1.1.1.1.0.now ≡ take (length a.1.0.now) e'.1.1.1.1.0.now)
-pair_one κs a r r' e e' pre p q =
-    let fits = entry_fits pre.0 in
-    (gives_found fits p q, gives_choices fits p q, gives_words fits p q)
+    → (r ≡ r')
+    × ((k : ℕ) → r ≡ Some k → take (length a.1.0.now.words.now) e.1.1.0.now ≡ take (length a.1.0.now.words.now) e'.1.1.0.now)
+pair_one κs a r r' e e' pre p q = (gives_found _ _ p q, gives_words (entry_fits pre.0) p q)
 
-pub settle_one : (κs : Lfts 4) (a : Dens κs settle_kinds.ps) (r r' : (res_t settle_kinds.r κs).Denot)
-    (e e' : AtExit (ended_of 4 settle_kinds.ps settle_kinds.r) κs)
+pub settle_one : (κs : Lfts 3) (a : Dens κs settle_kinds.ps) (r r' : (res_t settle_kinds.r κs).Denot)
+    (e e' : AtExit (ended_of 3 settle_kinds.ps settle_kinds.r) κs)
     → settle_reads.Pre κs a
     → settle_reads.Post κs a r e
     → settle_reads.Post κs a r' e'
     → (r ≡ r')
-    × (GivesBuild r → take (length a.1.0.now) e.1.1.1.1.0.now ≡ take (length a.1.0.now) e'.1.1.1.1.0.now)
+    × (GivesBuild r → take (length a.1.0.now.words.now) e.1.1.0.now ≡ take (length a.1.0.now.words.now) e'.1.1.0.now)
 settle_one κs a r r' e e' pre p q =
     (right_one (λ o o'. means_one) p q, words_one (λ o o'. means_one) p q (entry_fits pre.0))

@@ -1,5 +1,5 @@
 -- Laws of entering the entries of a card into one list. No contract cites this file. Assumes nothing.
-use mathlib.Core.Path.{◌≡◌, ◌∙◌}
+use mathlib.Core.Path.{◌≡◌, refl, ◌∙◌}
 use mathlib.Core.List.{List}
 use mathlib.Core.Logic.{◌≢◌, by_cases}
 use Prim.Native.Nat.{ℕ, ◌+◌, ◌*◌, ◌≤◌, ◌<◌}
@@ -7,6 +7,9 @@ use native.Mathlib.Omega.{arith}
 use native.Mathlib.Decide.{ℕ_discrete}
 use lib.ListN.{length, set, length-set}
 use lib.Seq.{get_or-set_same, get_or-set_other}
+use Rattle.card_entries.specs.declared.Slot.{Slot}
+use Rattle.card_entries.specs.Slot.{slot_from}
+use Rattle.card_entries.proofs.SlotLaws.{slot_from_lem}
 use Rattle.pair_following.specs.Following.{nth, place_in, word_in, last_in}
 use Rattle.pair_method.specs.PairMethod.{second_of}
 use Rattle.pair_method.specs.CardList.{with_entry, Entered}
@@ -117,9 +120,10 @@ module _ {words ones twos card : List ℕ} {e : ℕ} (r : Entering words ones tw
               (λ x. old (6 * f + 5) (omega (arith, x)) ∙ r.empty f (omega (arith, x)));
         }
 
-    pub entering_more : {card' : List ℕ} → card' ≡ with_entry card e w p q → w ≡ nth words e → p ≡ nth ones e
-        → q ≡ second_of (nth ones e) (nth twos e) → Entering words ones twos card' (e + 1)
-    entering_more is a b d = rw is (entered_more a b d)
+  pub entering_more : {card' : List ℕ} {s : Slot} → s ≡ slot_from words ones twos e
+      → card' ≡ with_entry card e s.word s.one (second_of s.one s.two)
+      → Entering words ones twos card' (e + 1)
+  entering_more entry is = rw (is, entry ∙ slot_from_lem words ones twos e) (entered_more _ _ _ refl refl refl)
 
 pub entering_end : {words ones twos card : List ℕ} {e : ℕ} → Entering words ones twos card e → length words ≤ e → Entered words ones twos card
 entering_end r h =

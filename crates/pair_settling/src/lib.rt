@@ -2,67 +2,46 @@
 // since it spells the same. The `pub` function has a `requires`: its caller has admitted the lists and made one list of them.
 #![tactic(auto)]
 
-ghost use Rattle.std.specs.Prelude.{◌<◌};
+ghost use Rattle.std.specs.Prelude.{◌<◌, is_ok};
 ghost use Rattle.pair_theory.specs.Chosen.{Closed};
-ghost use Rattle.pair_following.specs.Following.{nth, count_in, pairs_of, progress_of, Ready};
+ghost use Rattle.pair_following.specs.Following.{nth, count_in, pairs_in, progress_in, Ready};
 ghost use Rattle.pair_settling.specs.Settling.{GivesPlace, GivesPlaces};
 
-use pair_following::Step;
+use pair_following::{Clashed, PairCard, Placed};
 
 // Gives entry e a place, with all that this forces, whichever will do.
-fn settle(
-    card: &[usize],
-    mask: u32,
-    put: &mut [usize],
-    trail: &mut [usize],
-    n: usize,
-    e: usize,
-) -> Step
-    requires ready { Ready card.now mask (progress_of put.old trail.old n) }
-    requires closed { Closed (pairs_of card.now mask) (nth put.old) }
-    requires e_bound { e < count_in card.now }
+fn settle(pairs: &PairCard, placed: &mut Placed, e: usize) -> Result<(), Clashed>
+    requires ready { Ready pairs.now.card.now pairs.now.mask (progress_in placed.old) }
+    requires closed { Closed (pairs_in pairs.now) (nth placed.old.put.now) }
+    requires e_bound { e < count_in pairs.now.card.now }
     ensures { GivesPlace
-        (pairs_of card.now mask)
-        (progress_of put.old trail.old n)
+        (pairs_in pairs.now)
+        (progress_in placed.old)
         e
-        (progress_of put.new trail.new result.n)
-        result.ok }
+        (progress_in placed.new)
+        (is_ok result) }
 {
-    if put[e] < put.len() {
-        return Step { n, ok: true };
+    if placed.put[e] < placed.put.len() {
+        return Ok(());
     }
-    let one = pair_following::place_of(card, 2 * e);
-    let two = pair_following::place_of(card, 2 * e + 1);
-    let g = pair_following::follow(card, mask, put, trail, n, e, one);
-    if g.ok {
-        return g;
+    let one = pairs.place_of(2 * e);
+    let two = pairs.place_of(2 * e + 1);
+    let n = placed.n;
+    if pairs.follow(placed, e, one).is_ok() {
+        return Ok(());
     }
-    pair_following::undo(put, trail, n, g.n);
-    pair_following::follow(card, mask, put, trail, n, e, two)
+    placed.undo(n);
+    pairs.follow(placed, e, two)
 }
 
 // Gives every entry a place, where that can be done.
-pub fn settle_all(
-    card: &[usize],
-    mask: u32,
-    put: &mut [usize],
-    trail: &mut [usize],
-    n: usize,
-) -> bool
-    requires ready { Ready card.now mask (progress_of put.old trail.old n) }
-    requires closed { Closed (pairs_of card.now mask) (nth put.old) }
-    ensures { GivesPlaces (pairs_of card.now mask) put.old put.new result }
+pub fn settle_all(pairs: &PairCard, placed: &mut Placed) -> Result<(), Clashed>
+    requires ready { Ready pairs.now.card.now pairs.now.mask (progress_in placed.old) }
+    requires closed { Closed (pairs_in pairs.now) (nth placed.old.put.now) }
+    ensures { GivesPlaces (pairs_in pairs.now) placed.old.put.now placed.new.put.now (is_ok result) }
 {
-    let mut far = n;
-    let mut e = 0;
-    while e < put.len() {
-        let g = settle(card, mask, put, trail, far, e);
-        if g.ok {
-            far = g.n;
-            e += 1;
-        } else {
-            return false;
-        }
+    for e in 0..placed.put.len() {
+        settle(pairs, placed, e)?;
     }
-    true
+    Ok(())
 }

@@ -30,9 +30,8 @@ use Rattle.span_theory.specs.Settling as spans
 use Rattle.base_text.specs.Text.{refusal_line}
 use Rattle.base_text.proofs.PrintedLaws.{printed_bytes}
 use Rattle.text_fasta.specs.Record.{are_all, is_name, are_letters, record_of}
-use Rattle.text_fasta.specs.Reading.{says_parsed, Reads}
+use Rattle.text_fasta.specs.Reading.{Reads}
 use Rattle.text_fasta.specs.Profile.{IsRecord}
-use Rattle.text_fasta.specs.declared.reading.Parsed.{Parsed}
 use Rattle.text_fasta.proofs.LeadingLaws.{all_none, all_first}
 use Rattle.text_fasta.proofs.TestLaws.{name_holds, letters_all}
 use Rattle.text_fasta.proofs.AnswerLaws.{length_record}
@@ -136,10 +135,10 @@ module _ {limit : ℕ} {card name out err out' err' : List ℕ} {r : Lengths} (d
         record { named = is; lettered = lettered_letters (sole_lettered says); is = printed_bytes on ∙ on.prints }
 
     -- so that both are had again by reading it
-    pub sole_reads_back : is_name name ≡ true → {a b a' b' : List ℕ} {q : Parsed} → Reads (take r.output out') a b q a' b'
+    pub sole_reads_back : is_name name ≡ true → {a b a' b' : List ℕ} {q : Answer (ℕ × ℕ)} → Reads (take r.output out') a b q a' b'
         → length name ≤ length a
         → length (map letter_of s) ≤ length b
-        → (says_parsed q ≡ given (length name, length (map letter_of s)))
+        → (q ≡ given (length name, length (map letter_of s)))
         × (a' ≡ name ++ drop (length name) a)
         × (b' ≡ map letter_of s ++ drop (length (map letter_of s)) b)
     sole_reads_back is reads h g = record_is_read reads (sole_record is) h g

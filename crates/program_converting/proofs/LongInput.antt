@@ -13,7 +13,6 @@ use Rattle.base_answers.specs.Answer.{given, output_after}
 use Rattle.card_reader.proofs.FetchingLaws.{admission_refused}
 use Rattle.card_reader.proofs.FrontLaws.{Alike, enough, needed}
 use Rattle.card_entries.specs.Bounds.{most_entries}
-use Rattle.card_writer.specs.declared.Written.TheVariants.{Card}
 use Rattle.text_probes.proofs.NumberLaws.{lt_or_le}
 use Rattle.text_import.specs.Importing.{card_in, importing, Imports}
 use Rattle.text_import.proofs.Imported.{imported_short}
@@ -70,6 +69,6 @@ list_enough limit list = ⊎_elim longer whole (lt_or_le most_list (length list)
 -- a list that is longer than `list2card` takes is refused anyway, whatever room there is: no card is kept back
 pub longer_refused : (list room : List ℕ) {n : ℕ} → most_list < length list → importing most_entries list (length room) ≡ given n → ⊥
 longer_refused list room {n} h says =
-    let did : Imports most_entries list room (Card n) (output_after (card_in list) room (importing most_entries list (length room))) =
+    let did : Imports most_entries list room (given n) (output_after (card_in list) room (importing most_entries list (length room))) =
     record { answer = sym says; bytes = refl } in
     omega (arith, imported_short did refl)

@@ -4,7 +4,6 @@ ghost use Rattle.base_text.specs.Putting.{Put};
 ghost use Rattle.program_converting.specs.Converting.{too_long, to_card, Converted};
 
 use crate::Lengths;
-use card_writer::Written;
 use program_streams::list::MOST;
 
 // That a list is longer than the program takes.
@@ -25,17 +24,10 @@ pub fn convert(
     ensures { Converted (to_card most_entries list.now) out.old err.old result out.new err.new }
 {
     if MOST < list.len() {
-        let errors = put_too_long(err);
-        return Lengths { output: 0, errors };
+        return Lengths {
+            output: 0,
+            errors: put_too_long(err),
+        };
     }
-    match text_import::import(list, out) {
-        Written::Card(n) => Lengths {
-            output: n,
-            errors: 0,
-        },
-        Written::Refused(r) => {
-            let errors = base_text::put_refused(err, r);
-            Lengths { output: 0, errors }
-        }
-    }
+    crate::put_answer(text_import::import(list, out), err)
 }

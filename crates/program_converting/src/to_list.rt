@@ -3,7 +3,6 @@ ghost use Rattle.card_entries.specs.Bounds.{most_entries};
 ghost use Rattle.program_converting.specs.Converting.{to_list, Converted};
 
 use crate::Lengths;
-use text_export::Exported;
 
 // What is written stands at the start of each buffer, whose later bytes are as they were; the answer is how many bytes each has.
 pub fn convert(
@@ -13,14 +12,5 @@ pub fn convert(
 ) -> Lengths
     ensures { Converted (to_list most_entries card.now) out.old err.old result out.new err.new }
 {
-    match text_export::export(card, out) {
-        Exported::Text(n) => Lengths {
-            output: n,
-            errors: 0,
-        },
-        Exported::Refused(r) => {
-            let errors = base_text::put_refused(err, r);
-            Lengths { output: 0, errors }
-        }
-    }
+    crate::put_answer(text_export::export(card, out), err)
 }

@@ -1,21 +1,19 @@
 -- Laws of the reports of `build` and `settle`: what is printed by an answer and the letters that it left is what is printed by what is said
 -- of the card. No contract cites this file. Assumes nothing.
-use mathlib.Core.Path.{◌≡◌, refl, ap}
-use mathlib.Core.List.{List, [], ◌∷◌, ◌++◌}
+use mathlib.Core.Path.{◌≡◌, refl, sym, ap}
+use mathlib.Core.List.{List, ◌++◌}
 use Prim.Native.Nat.{ℕ, ◌≤◌}
 use lib.ListN.{length}
-use types.Run.{OneOf, miss}
-use denote.Enum.Declared.{tag_of}
+use Rattle.std.specs.Prelude.{Result, Ok, Err}
 use Rattle.base_answers.specs.declared.Refusal.{Refusal}
-use Rattle.base_answers.specs.Answer.{Answer, given, refused}
+use Rattle.base_answers.specs.Answer.{Answer, given, refused, number_of, place_of, says}
+use Rattle.base_answers.proofs.Laws.{given_not_refused}
 use Rattle.card_block.specs.Block.{block_bytes}
 use Rattle.card_entries.specs.declared.Format.{Format}
 use Rattle.card_layout.specs.Layout.{told_by}
 use Rattle.card_reader.proofs.FetchingLaws.{order_admits}
 use Rattle.build_sequence.specs.Verdict.{sole, several, no_build, Outcome, settled, unsettled}
 use Rattle.build_card.specs.declared.BuildAnswer.{BuildAnswer}
-use Rattle.build_card.specs.declared.BuildAnswer.TheVariants.{Sole, Several, None, Unsettled, Refused}
-use Rattle.build_card.specs.contracts.BuildAnswer.{the_type}
 use Rattle.build_card.specs.Building.{build_tests, Says, tells, refuses, answer_of, letters_after, Builds}
 use Rattle.build_card.proofs.CardLaws.{order_held}
 use Rattle.build_narrow.specs.Settling.{OfCard, SettlesInto}
@@ -27,56 +25,36 @@ use Rattle.base_text.proofs.PrintedLaws.{put_printed}
 use Rattle.base_text.proofs.PuttingLaws.{put_as}
 use Rattle.program_lines.specs.Lines.{program_budget, letters_room, card_line, lines_of, ReportsBy, Reports}
 use Rattle.program_lines.specs.SettleLines.{SettleReports}
-use Rattle.program_lines.specs.ByAnswer.{verdict_by, lines_by, IsGiven, Tellable}
+use Rattle.program_lines.specs.ByAnswer.{verdict_by, lines_by, Tellable}
 use Rattle.program_lines.proofs.VerdictLaws.{verdict_said, length_said}
 
 -- ---- the lines by an answer
 
 lines_said : (f : Format) (before : List ℕ) (a : Answer Outcome) → lines_by f (answer_of a) (letters_after a before) ≡ lines_of f a
 unfolding lines_of
-lines_said f before (given (settled (sole s) n)) = ap (◌++◌ (card_line f)) (verdict_said before (settled (sole s) n))
-lines_said f before (given (settled (several s) n)) = ap (◌++◌ (card_line f)) (verdict_said before (settled (several s) n))
-lines_said f before (given (settled no_build n)) = ap (◌++◌ (card_line f)) (verdict_said before (settled no_build n))
-lines_said f before (given (unsettled n)) = ap (◌++◌ (card_line f)) (verdict_said before (unsettled n))
+lines_said f before (given (settled (sole s) n)) = ap (◌++◌ (card_line f)) (verdict_said before (settled (sole s) n) refl)
+lines_said f before (given (settled (several s) n)) = ap (◌++◌ (card_line f)) (verdict_said before (settled (several s) n) refl)
+lines_said f before (given (settled no_build n)) = ap (◌++◌ (card_line f)) (verdict_said before (settled no_build n) refl)
+lines_said f before (given (unsettled n)) = ap (◌++◌ (card_line f)) (verdict_said before (unsettled n) refl)
 lines_said f before (refused n p) = refl
 
--- a refusal, and no refusal
-pub refused_lines : (f : Format) (letters : List ℕ) {r : BuildAnswer} {x : Refusal} {out after : List ℕ} {n : ℕ} → r ≡ Refused x
-    → Put (refusal_line x.number x.place) 0 out n after
-    → Put (lines_by f r letters) 0 out n after
-refused_lines f letters e put = rw e put
+-- by the case of the answer
+module _ (f : Format) (letters : List ℕ) {r : Result BuildAnswer Refusal} {out after : List ℕ} {n : ℕ} where
+  pub refused_lines : {x : Refusal} → r ≡ Err x → Put (refusal_line (number_of x) (place_of x)) 0 out n after
+      → Put (lines_by f (says r) letters) 0 out n after
+  refused_lines e put = rw e put
 
-given_by : (f : Format) (letters : List ℕ) (r : BuildAnswer) → IsGiven r → card_line f ++ verdict_by r letters ≡ lines_by f r letters
-given_by f letters (Sole n k) is = refl
-given_by f letters (Several n k) is = refl
-given_by f letters (None k) is = refl
-given_by f letters (Unsettled k) is = refl
-given_by f letters (Refused x) is = absurd is
-
-pub given_lines : (f : Format) (letters : List ℕ) (r : BuildAnswer) {out after : List ℕ} {n : ℕ} → IsGiven r
-    → Put (card_line f ++ verdict_by r letters) 0 out n after
-    → Put (lines_by f r letters) 0 out n after
-given_lines f letters r is put = put_as put (given_by f letters r is)
-
--- what is not `Refused` is no refusal
-pub given_other : (r : BuildAnswer) → ((x : Refusal) → r ≡ Refused x → ⊥) → IsGiven r
-given_other (Sole n k) other = tt
-given_other (Several n k) other = tt
-given_other (None k) other = tt
-given_other (Unsettled k) other = tt
-given_other (Refused x) other = absurd (other x refl)
-
--- so the first four cases are none
-pub given_case : (r : BuildAnswer) → OneOf (0 ∷ 1 ∷ 2 ∷ 3 ∷ []) (tag_of the_type r) → IsGiven r
-given_case r is = given_other r (λ x e. miss (0 ∷ 1 ∷ 2 ∷ 3 ∷ []) 4 tt (rw e at is))
+  pub given_lines : {a : BuildAnswer} → r ≡ Ok a → Put (card_line f ++ verdict_by a letters) 0 out n after
+      → Put (lines_by f (says r) letters) 0 out n after
+  given_lines e put = rw e put
 
 -- ---- what was answered, and the letters after it
 
-module _ (before : List ℕ) (said : Answer Outcome) {card letters : List ℕ} {r : BuildAnswer} (answer : r ≡ answer_of said)
+module _ (before : List ℕ) (said : Answer Outcome) {card letters : List ℕ} {r : Answer BuildAnswer} (answer : r ≡ answer_of said)
     (output : letters ≡ letters_after said before) where
-  said_tellable : (IsGiven (answer_of said) → block_bytes ≤ length card) → Tellable card r letters
+  said_tellable : ((b : BuildAnswer) → answer_of said ≡ given b → block_bytes ≤ length card) → Tellable card r letters
   said_tellable there =
-      rw (answer, output) (record { there = there; letters_there = length_said before said })
+      rw (answer, output) (record { there = there; letters_there = λ b. length_said before said })
 
   said_reported : (Says : Answer Outcome → Type 0) {out after : List ℕ} {n : ℕ} → Says said
       → Put (lines_by (told_by card) r letters) 0 out n after
@@ -86,12 +64,13 @@ module _ (before : List ℕ) (said : Answer Outcome) {card letters : List ℕ} {
 
 -- ---- `build`
 
-says_there : {limit budget room : ℕ} {card : List ℕ} {a : Answer Outcome} → Says limit card budget room a → IsGiven (answer_of a)
+says_there : {limit budget room : ℕ} {card : List ℕ} {a : Answer Outcome} → Says limit card budget room a → (b : BuildAnswer)
+    → answer_of a ≡ given b
     → block_bytes ≤ length card
-says_there {limit} {room} {card} (tells e means) is = (order_admits (order_held limit card room e)).head.there
-says_there (refuses e) is = absurd is
+says_there {limit} {room} {card} (tells e means) b is = (order_admits (order_held limit card room e)).head.there
+says_there (refuses e) b is = absurd (given_not_refused (sym is))
 
-module _ {limit : ℕ} {card before letters : List ℕ} {r : BuildAnswer} (built : Builds limit card program_budget before r letters) where
+module _ {limit : ℕ} {card before letters : List ℕ} {r : Answer BuildAnswer} (built : Builds limit card program_budget before r letters) where
   pub build_tellable : Tellable card r letters
   build_tellable = said_tellable before built.said built.answer built.output (says_there built.says)
 
@@ -104,13 +83,14 @@ module _ {limit : ℕ} {card before letters : List ℕ} {r : BuildAnswer} (built
 
 -- ---- `settle`
 
-settled_there : (limit : ℕ) (card : List ℕ) (room : ℕ) {a : Answer Outcome} → OfCard limit card room a → IsGiven (answer_of a)
+settled_there : (limit : ℕ) (card : List ℕ) (room : ℕ) {a : Answer Outcome} → OfCard limit card room a → (b : BuildAnswer)
+    → answer_of a ≡ given b
     → block_bytes ≤ length card
-settled_there limit card room (settling.tells e means) is =
+settled_there limit card room (settling.tells e means) b is =
     (order_admits (order_held limit card room (tests_hold _ _ (build_tests limit card room) e).0)).head.there
-settled_there limit card room (settling.refuses e) is = absurd is
+settled_there limit card room (settling.refuses e) b is = absurd (given_not_refused (sym is))
 
-module _ (limit : ℕ) (card before : List ℕ) {letters : List ℕ} {r : BuildAnswer}
+module _ (limit : ℕ) (card before : List ℕ) {letters : List ℕ} {r : Answer BuildAnswer}
     (did : SettlesInto answer_of (OfCard limit card (length before)) before r letters) where
   pub settle_tellable : Tellable card r letters
   settle_tellable = said_tellable before did.said did.answer did.output (settled_there limit card (length before) did.says)

@@ -1,12 +1,13 @@
 -- Laws of line 2: by an answer and the letters that it left, and by what is said of the card; that it is not the line of a refusal. No contract
 -- cites this file. Assumes nothing.
-use mathlib.Core.Path.{◌≡◌, refl}
+use mathlib.Core.Path.{◌≡◌, refl, sym, ap}
 use mathlib.Core.List.{List, ◌++◌, map}
 use Prim.Native.Nat.{ℕ, ◌≤◌}
 use Prim.Native.Char.{code}
 use native.Mathlib.Omega.{arith}
 use lib.ListN.{length, drop, length-append, length-map}
 use Rattle.base_answers.specs.Answer.{Answer, given, refused}
+use Rattle.base_answers.proofs.Laws.{given_not_refused}
 use Rattle.base_letters.specs.Letters.{letter_of}
 use Rattle.build_sequence.specs.Verdict.{sole, several, no_build, Outcome, settled, unsettled}
 use Rattle.build_card.specs.declared.BuildAnswer.{BuildAnswer}
@@ -30,23 +31,31 @@ module _ {r a : BuildAnswer} (e : r ≡ a) where
 
 -- ---- by what is said, with the letters at the start of the buffer
 
+given_one : {a b : BuildAnswer} → ◌≡◌ {A = Answer BuildAnswer} (given a) (given b) → a ≡ b
+given_one {a} e = ap got e
+  where
+    got : Answer BuildAnswer → BuildAnswer
+    got (given b) = b
+    got (refused n p) = a
+
 letters_fit : (s before : List ℕ) → length s ≤ length (map letter_of s ++ drop (length s) before)
 letters_fit s before = omega (arith, length-append (map letter_of s) (drop (length s) before), length-map s letter_of)
 
 module _ (before : List ℕ) where
-  pub verdict_said : (o : Outcome) → verdict_by (answer_of (given o)) (letters_after (given o) before) ≡ verdict_line o
+  pub verdict_said : (o : Outcome) {a : BuildAnswer} → answer_of (given o) ≡ given a
+      → verdict_by a (letters_after (given o) before) ≡ verdict_line o
   unfolding verdict_line
-  verdict_said (settled (sole s) n) = rw (letters_start s before)
-  verdict_said (settled (several s) n) = rw (letters_start s before)
-  verdict_said (settled no_build n) = refl
-  verdict_said (unsettled n) = refl
+  verdict_said (settled (sole s) n) e = rw (sym (given_one e), letters_start s before) refl
+  verdict_said (settled (several s) n) e = rw (sym (given_one e), letters_start s before) refl
+  verdict_said (settled no_build n) e = rw (sym (given_one e)) refl
+  verdict_said (unsettled n) e = rw (sym (given_one e)) refl
 
-  pub length_said : (a : Answer Outcome) → length_in (answer_of a) ≤ length (letters_after a before)
-  length_said (given (settled (sole s) n)) = letters_fit s before
-  length_said (given (settled (several s) n)) = letters_fit s before
-  length_said (given (settled no_build n)) = omega arith
-  length_said (given (unsettled n)) = omega arith
-  length_said (refused n p) = omega arith
+  pub length_said : (a : Answer Outcome) {b : BuildAnswer} → answer_of a ≡ given b → length_in b ≤ length (letters_after a before)
+  length_said (given (settled (sole s) n)) e = rw (sym (given_one e)) (letters_fit s before)
+  length_said (given (settled (several s) n)) e = rw (sym (given_one e)) (letters_fit s before)
+  length_said (given (settled no_build n)) e = rw (sym (given_one e)) (omega arith)
+  length_said (given (unsettled n)) e = rw (sym (given_one e)) (omega arith)
+  length_said (refused n p) e = absurd (given_not_refused (sym e))
 
 -- ---- it is no refusal's line
 

@@ -8,8 +8,6 @@ ghost use Rattle.base_text.specs.Putting.{Put};
 ghost use Rattle.program_lines.specs.CountLine.{count_line, CountReports};
 ghost use Rattle.program_lines.specs.Rooms.{power_room};
 
-use build_count::Number;
-
 // Room for the line; the longest is that of a refusal.
 pub const LINE: usize = 50;
 
@@ -27,8 +25,8 @@ pub fn report(card: &[u8], out: &mut [u8; LINE]) -> usize
     ensures { Printed (CountReports most_entries card.now) out.old result out.new }
 {
     match build_count::count_card(card) {
-        Number::Power(k) => put_power(out, k),
-        Number::None => base_text::put_text(out, 0, b"builds 0\n"),
-        Number::Refused(r) => base_text::put_refused(out, r),
+        Ok(Some(k)) => put_power(out, k),
+        Ok(None) => base_text::put_text(out, 0, b"builds 0\n"),
+        Err(r) => base_text::put_refused(out, r),
     }
 }

@@ -7,6 +7,7 @@ pub mod settle;
 pub mod verdict;
 
 ghost use Rattle.std.specs.Prelude.{◌+◌, ◌≤◌, length};
+ghost use Rattle.base_answers.specs.Answer.{says};
 ghost use Rattle.card_block.specs.Block.{block_bytes};
 ghost use Rattle.card_layout.specs.Layout.{told_by};
 ghost use Rattle.card_entries.specs.Bounds.{most_entries};
@@ -16,6 +17,7 @@ ghost use Rattle.program_lines.specs.Lines.{letters_room, kind_name, card_line, 
 ghost use Rattle.program_lines.specs.ByAnswer.{lines_by, Tellable};
 ghost use Rattle.program_lines.specs.Rooms.{name_bytes, card_room};
 
+use base_answers::Refusal;
 use build_card::BuildAnswer;
 
 // The budget that `build` uses.
@@ -50,16 +52,21 @@ fn put_card(out: &mut [u8], card: &[u8]) -> usize
 }
 
 // The lines by an answer, and by the letters that it left.
-fn put_answer(out: &mut [u8; LINES], card: &[u8], answer: BuildAnswer, letters: &[u8]) -> usize
-    requires tellable { Tellable card.now answer letters.now }
+fn put_answer(
+    out: &mut [u8; LINES],
+    card: &[u8],
+    answer: Result<BuildAnswer, Refusal>,
+    letters: &[u8],
+) -> usize
+    requires tellable { Tellable card.now (says answer) letters.now }
     requires few_letters { length letters.now ≤ letters_room most_entries }
-    ensures { Put (lines_by (told_by card.now) answer letters.now) 0 out.old result out.new }
+    ensures { Put (lines_by (told_by card.now) (says answer) letters.now) 0 out.old result out.new }
 {
     match answer {
-        BuildAnswer::Refused(r) => base_text::put_refused(out, r),
-        _ => {
+        Err(r) => base_text::put_refused(out, r),
+        Ok(a) => {
             let at = put_card(out, card);
-            verdict::put(out, at, answer, letters)
+            verdict::put(out, at, a, letters)
         }
     }
 }

@@ -29,7 +29,7 @@ fn put_placements(out: &mut [u8], at: usize, verdict: &[u8], n: u32) -> usize
     base_text::put_last(out, n_at, n as usize)
 }
 
-// The line by an answer, and by the letters that it left; nothing where it is a refusal.
+// The line by an answer, and by the letters that it left.
 pub fn put(out: &mut [u8], at: usize, answer: BuildAnswer, letters: &[u8]) -> usize
     requires letters_there { length_in answer ≤ length letters.now }
     requires room { at + verdict_room (length letters.now) ≤ length out.old }
@@ -40,6 +40,5 @@ pub fn put(out: &mut [u8], at: usize, answer: BuildAnswer, letters: &[u8]) -> us
         BuildAnswer::Several(n, k) => put_sequence(out, at, b"several", &letters[..n], k),
         BuildAnswer::None(k) => put_placements(out, at, b"none", k),
         BuildAnswer::Unsettled(k) => put_placements(out, at, b"unsettled", k),
-        BuildAnswer::Refused(_) => at,
     }
 }

@@ -6,23 +6,12 @@ pub mod card;
 pub mod list;
 mod reason;
 
-ghost use Rattle.std.specs.Prelude.{◌≤◌, length};
+ghost use Rattle.std.specs.Prelude.{◌≤◌, length, IfSome, IfOk};
 
 use std::env::FillError;
 use std::io;
 use std::io::Read;
 use std::rt::Env;
-
-// The most bytes that are read at once.
-const AT_ONCE: usize = 4096;
-
-// What was read: the first n bytes of a buffer, and whether it is all there. It is not where the program was called in another way, or where a read
-// failed.
-#[derive(Clone, Copy)]
-pub struct Given {
-    pub n: usize,
-    pub whole: bool,
-}
 
 // Says the bytes on standard error. Where that fails, nothing can be told.
 pub fn say(rt: &HostRuntime, bytes: &[u8]) {
@@ -43,54 +32,50 @@ fn is_given(rt: &HostRuntime, number: usize) -> bool {
     !matches!(rt.arg(number, &mut start), Err(FillError::NotPresent))
 }
 
-// Whether the program was called with so many arguments. Where it was not, says on standard error how it is used.
-fn called_with(rt: &HostRuntime, arguments: usize, usage: &[u8]) -> bool {
-    if is_given(rt, arguments) && !is_given(rt, arguments.saturating_add(1)) {
-        return true;
-    }
-    say(rt, usage);
-    false
+// Whether the program was called with so many arguments.
+fn called_with(rt: &HostRuntime, arguments: usize) -> bool {
+    is_given(rt, arguments) && !is_given(rt, arguments.saturating_add(1))
 }
 
-fn least(a: usize, b: usize) -> usize
-    ensures { (result ≤ a) × (result ≤ b) }
-{
-    if a < b { a } else { b }
-}
-
-// Reads standard input to the start of the buffer, until it is full or the input ends. Where a read fails, says on standard error of what, and why.
-fn fill(rt: &HostRuntime, bytes: &mut [u8], what: &[u8]) -> Given
-    ensures { result.n ≤ length bytes.new }
+// Reads standard input to the start of the buffer, until it is full or the input ends; the answer is how many bytes were read.
+fn fill(rt: &HostRuntime, bytes: &mut [u8]) -> io::Result<usize>
+    ensures { IfOk result (λ n. n ≤ length bytes.new) }
 {
     let mut input = rt.stdin();
     let mut n = 0;
+    // How much a read takes is not known before it, so no range has the reads.
     while n < bytes.len() {
-        let mut more = [0u8; AT_ONCE];
-        match input.read(&mut more) {
-            Err(why) => {
-                say_failed(rt, what, &why);
-                return Given { n, whole: false };
-            }
-            Ok(got) => {
-                let k = least(got, bytes.len() - n);
-                if k == 0 {
-                    break;
-                }
-                n = base_text::put_text(bytes, n, &more[..k]);
-            }
+        let more = input.read(&mut bytes[n..])?;
+        if more == 0 {
+            break;
         }
+        n += more;
     }
-    Given { n, whole: true }
+    Ok(n)
 }
 
-// Reads standard input to the start of the buffer, where the program was called with so many arguments.
-fn take(rt: &HostRuntime, bytes: &mut [u8], arguments: usize, usage: &[u8], what: &[u8]) -> Given
-    ensures { result.n ≤ length bytes.new }
+// Reads standard input into the buffer, where the program was called with so many arguments; the answer is the part of it that was read. Where the
+// program was called in another way, says on standard error how it is used; where a read fails, of what, and why: then there is no answer.
+fn take<'a>(
+    rt: &HostRuntime,
+    bytes: &'a mut [u8],
+    arguments: usize,
+    usage: &[u8],
+    what: &[u8],
+) -> Option<&'a [u8]>
+    ensures { IfSome result (λ input. length input.now ≤ length bytes.old) }
 {
-    if !called_with(rt, arguments, usage) {
-        return Given { n: 0, whole: false };
+    if !called_with(rt, arguments) {
+        say(rt, usage);
+        return None;
     }
-    fill(rt, bytes, what)
+    match fill(rt, bytes) {
+        Ok(n) => Some(&bytes[..n]),
+        Err(why) => {
+            say_failed(rt, what, &why);
+            None
+        }
+    }
 }
 
 // Writes the bytes on a stream. Where not all of them could be written, says on standard error of what, and why.

@@ -144,32 +144,32 @@ several_told s n m no_build h = absurd h
 
 sole_narrowed : (o : Outcome) (t before before' : List ℕ) {k : ℕ} → Narrowed o (settled (sole t) k)
     → (j : ℕ) × (j ≤ k)
-    × ((answer_of (given o) ≡ None j)
-    ⊎ ((answer_of (given o) ≡ Sole (length t) j)
+    × ((answer_of (given o) ≡ given (None j))
+    ⊎ ((answer_of (given o) ≡ given (Sole (length t) j))
     × (take (length t) (letters_after (given o) before) ≡ take (length t) (map letter_of t ++ drop (length t) before'))))
 sole_narrowed o t before before' (j, e, h) = (j, h, ⊎_map none_too same_too e)
   where
-    none_too : o ≡ settled no_build j → answer_of (given o) ≡ None j
+    none_too : o ≡ settled no_build j → answer_of (given o) ≡ given (None j)
     none_too f = ap (λ (x : Outcome). answer_of (given x)) f
 
     same_too : o ≡ settled (sole t) j
-        → (answer_of (given o) ≡ Sole (length t) j)
+        → (answer_of (given o) ≡ given (Sole (length t) j))
         × (take (length t) (letters_after (given o) before) ≡ take (length t) (map letter_of t ++ drop (length t) before'))
     same_too f = (
       ap (λ (x : Outcome). answer_of (given x)) f,
       ap (λ (x : Outcome). take (length t) (letters_after (given x) before)) f ∙ letters_start t before ∙ sym (letters_start t before'),
     )
 
-pub sole_narrowed_told : (o : Outcome) (t before before' : List ℕ) {after after' : List ℕ} {n k : ℕ} {r : BuildAnswer}
+pub sole_narrowed_told : (o : Outcome) (t before before' : List ℕ) {after after' : List ℕ} {n k : ℕ} {r : Answer BuildAnswer}
     → r ≡ answer_of (given o)
     → after ≡ letters_after (given o) before
     → n ≡ length t
     → after' ≡ map letter_of t ++ drop (length t) before'
     → Narrowed o (settled (sole t) k)
-    → (j : ℕ) × (j ≤ k) × ((r ≡ None j) ⊎ ((r ≡ Sole n j) × (take n after ≡ take n after')))
+    → (j : ℕ) × (j ≤ k) × ((r ≡ given (None j)) ⊎ ((r ≡ given (Sole n j)) × (take n after ≡ take n after')))
 sole_narrowed_told o t before before' a out size out' h = rw (a, out, size, out') (sole_narrowed o t before before' h)
 
-pub none_narrowed : (o : Outcome) {k : ℕ} → Narrowed o (settled no_build k) → (j : ℕ) × (j ≤ k) × (answer_of (given o) ≡ None j)
+pub none_narrowed : (o : Outcome) {k : ℕ} → Narrowed o (settled no_build k) → (j : ℕ) × (j ≤ k) × (answer_of (given o) ≡ given (None j))
 none_narrowed o (j, e, h) = (j, h, ap (λ (x : Outcome). answer_of (given x)) e)
 
 -- where the tests hold, an outcome is said

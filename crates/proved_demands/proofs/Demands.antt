@@ -6,26 +6,22 @@ use mathlib.Core.Logic.{◌⊎◌}
 use mathlib.Core.List.{List, ◌++◌, map}
 use Prim.Native.Nat.{ℕ, ◌≤◌, ◌<◌}
 use lib.ListN.{length, take, drop}
+use Rattle.std.specs.Prelude.{Result}
 use Rattle.base_answers.specs.declared.Refusal.{Refusal}
-use Rattle.base_answers.specs.Answer.{given, refused, first, sound}
+use Rattle.base_answers.specs.Answer.{Answer, given, refused, first, sound, says}
 use Rattle.base_letters.specs.Letters.{letter_of}
 use Rattle.card_entries.specs.declared.Format.{Format}
 use Rattle.card_entries.specs.Fault.{span}
 use Rattle.card_entries.specs.Bounds.{most_entries}
 use Rattle.card_layout.specs.Layout.{told_by, slots_on, entries_on}
-use Rattle.card_reader.specs.declared.Admitted.{Admitted}
-use Rattle.card_reader.specs.declared.Admitted.TheVariants.{Refused as NotAdmitted}
-use Rattle.card_reader.specs.Fetching.{says_admitted}
 use Rattle.card_reader.specs.Listing.{listing, Listed}
-use Rattle.card_writer.specs.declared.Written.{Written}
-use Rattle.card_writer.specs.declared.Written.TheVariants.{Refused as NotWritten}
-use Rattle.card_writer.specs.Writing.{writing, says_written, Writes}
+use Rattle.card_writer.specs.Writing.{writing, Writes}
 use Rattle.card_writer.specs.GivesBack.{GivesBack}
 use Rattle.card_writer.proofs.RoundTrip.{read_back, written_again}
 use Rattle.build_sequence.specs.Verdict.{Before}
 use Rattle.span_theory.specs.Walk.{placements}
 use Rattle.build_card.specs.declared.BuildAnswer.{BuildAnswer}
-use Rattle.build_card.specs.declared.BuildAnswer.TheVariants.{Sole, Several, None, Unsettled, Refused}
+use Rattle.build_card.specs.declared.BuildAnswer.TheVariants.{Sole, Several, None, Unsettled}
 use Rattle.build_card.specs.Building.{build_tests, answer_of, letters_after, Builds}
 use Rattle.build_card.proofs.FromLaws.{letters_start}
 use Rattle.build_card.proofs.Determined.{says_one, told_one, builds_one}
@@ -41,60 +37,61 @@ use Rattle.build_sequence.proofs.MatchedLaws.{build_matches, matches_build}
 
 -- as one statement, by its cases; and the other way round: what is meant is answered, with that output, and nothing else. Each theorem
 -- below on an answer of build is a case of one of the two
-module _ {card before after : List ℕ} {budget : ℕ} {r : BuildAnswer} (b : Builds most_entries card budget before r after) where
+module _ {card before after : List ℕ} {budget : ℕ} {r : Answer BuildAnswer} (b : Builds most_entries card budget before r after) where
   pub means : Meant card budget before r after
   means = rw (b.answer, b.output) (said_meant before b.said b.says)
 
-  pub means_when : (r' : BuildAnswer) {after' : List ℕ} → Meant card budget before r' after' → (r ≡ r') × (after ≡ after')
-  means_when r' m = builds_one b (meant_builds r' m)
+  pub means_when : (r' : Answer BuildAnswer) {after' : List ℕ} → Meant card budget before r' after' → (r ≡ r') × (after ≡ after')
+  means_when r' m = let q = meant_builds r' m in told_one answer_of before b.says q.says b.answer q.answer b.output q.output
 
 -- "For every card, budget and lent buffer there is one of the answers": one that means what its case says, whatever the call is. That the call
 -- gives it is `means_when`
-pub answered : (card : List ℕ) (budget : ℕ) (before : List ℕ) → (r : BuildAnswer) × (after : List ℕ) × Meant card budget before r after
+pub answered : (card : List ℕ) (budget : ℕ) (before : List ℕ) → (r : Answer BuildAnswer) × (after : List ℕ) × Meant card budget before r after
 answered = some_meant
 
 -- any two outcomes that meet the contract are one
-pub one_outcome : {card before after after' : List ℕ} {budget : ℕ} {r r' : BuildAnswer} → Builds most_entries card budget before r after
-    → Builds most_entries card budget before r' after'
+pub one_outcome : {card before after after' : List ℕ} {budget : ℕ} {r r' : Result BuildAnswer Refusal}
+    → Builds most_entries card budget before (says r) after
+    → Builds most_entries card budget before (says r') after'
     → (r ≡ r') × (after ≡ after')
 one_outcome = builds_one
 
 -- ---- demand 1: refusals
 
 -- "A refusal carries its number and place, and no byte of a lent buffer differs after it."
-pub refused_untouched : {card before after : List ℕ} {budget : ℕ} {r : Refusal} → Builds most_entries card budget before (Refused r) after
-    → (first (build_tests most_entries card (length before)) sound ≡ refused r.number r.place) × (after ≡ before)
+pub refused_untouched : {card before after : List ℕ} {budget : ℕ} {n p : ℕ} → Builds most_entries card budget before (refused n p) after
+    → (first (build_tests most_entries card (length before)) sound ≡ refused n p) × (after ≡ before)
 refused_untouched b = means b
 
 -- and a card that a test fails is refused so
-pub refused_when : {card before after : List ℕ} {budget : ℕ} {r : BuildAnswer} → Builds most_entries card budget before r after
+pub refused_when : {card before after : List ℕ} {budget : ℕ} {r : Answer BuildAnswer} → Builds most_entries card budget before r after
     → {n p : ℕ} → first (build_tests most_entries card (length before)) sound ≡ refused n p
-    → (r ≡ Refused (record { number = n; place = p })) × (after ≡ before)
-refused_when b {n} {p} e = means_when b (Refused (record { number = n; place = p })) (e, refl)
+    → (r ≡ refused n p) × (after ≡ before)
+refused_when b {n} {p} e = means_when b (refused n p) (e, refl)
 
 -- the same of the writer, and of admitting into lent lists
-pub write_refused_untouched : {kind l : ℕ} {words ones twos before after : List ℕ} {r : Refusal}
-    → Writes most_entries kind l words ones twos before (NotWritten r) after
-    → (writing most_entries kind l words ones twos (length before) ≡ refused r.number r.place) × (after ≡ before)
+pub write_refused_untouched : {kind l : ℕ} {words ones twos before after : List ℕ} {n p : ℕ}
+    → Writes most_entries kind l words ones twos before (refused n p) after
+    → (writing most_entries kind l words ones twos (length before) ≡ refused n p) × (after ≡ before)
 write_refused_untouched did = (sym did.answer, rw (sym did.answer) at did.bytes)
 
-pub admit_refused_untouched : {card words ones twos words' ones' twos' : List ℕ} {r : Refusal}
-    → Listed most_entries card words ones twos (NotAdmitted r) words' ones' twos'
-    → (listing most_entries card words ones twos ≡ refused r.number r.place) × ((words' ≡ words) × (ones' ≡ ones) × (twos' ≡ twos))
+pub admit_refused_untouched : {card words ones twos words' ones' twos' : List ℕ} {n p : ℕ}
+    → Listed most_entries card words ones twos (refused n p) words' ones' twos'
+    → (listing most_entries card words ones twos ≡ refused n p) × ((words' ≡ words) × (ones' ≡ ones) × (twos' ≡ twos))
 admit_refused_untouched did =
     let no = sym did.answer in (no, (rw no at did.in_words, rw no at did.in_ones, rw no at did.in_twos))
 
 -- and lists that a test fails, or a card, are refused so
-pub write_refused_when : {kind l : ℕ} {words ones twos before after : List ℕ} {r : Written} {n p : ℕ}
+pub write_refused_when : {kind l : ℕ} {words ones twos before after : List ℕ} {r : Answer ℕ} {n p : ℕ}
     → Writes most_entries kind l words ones twos before r after
     → writing most_entries kind l words ones twos (length before) ≡ refused n p
-    → (says_written r ≡ refused n p) × (after ≡ before)
+    → (r ≡ refused n p) × (after ≡ before)
 write_refused_when did e = (did.answer ∙ e, rw e at did.bytes)
 
-pub admit_refused_when : {card words ones twos words' ones' twos' : List ℕ} {r : Admitted} {n p : ℕ}
+pub admit_refused_when : {card words ones twos words' ones' twos' : List ℕ} {r : Answer Format} {n p : ℕ}
     → Listed most_entries card words ones twos r words' ones' twos'
     → listing most_entries card words ones twos ≡ refused n p
-    → (says_admitted r ≡ refused n p) × ((words' ≡ words) × (ones' ≡ ones) × (twos' ≡ twos))
+    → (r ≡ refused n p) × ((words' ≡ words) × (ones' ≡ ones) × (twos' ≡ twos))
 admit_refused_when did e = (did.answer ∙ e, (rw e at did.in_words, rw e at did.in_ones, rw e at did.in_twos))
 
 -- ---- demand 2
@@ -110,36 +107,36 @@ module _ (card : List ℕ) (room : ℕ) (hold : Passes card room) {s : List ℕ}
 
 module _ {card before after : List ℕ} {budget : ℕ} where
   -- "Sole means exactly one sequence fits"
-  pub sole_means : {n k : ℕ} → Builds most_entries card budget before (Sole n k) after
+  pub sole_means : {n k : ℕ} → Builds most_entries card budget before (given (Sole n k)) after
       → (s : List ℕ) × (Fits card s × ((t : List ℕ) → Fits card t → t ≡ s))
       × ((n ≡ length s) × Letters s before after)
   sole_means b = (means b).2
 
   -- "several means two or more and gives the alphabetically first"
-  pub several_means : {n k : ℕ} → Builds most_entries card budget before (Several n k) after
+  pub several_means : {n k : ℕ} → Builds most_entries card budget before (given (Several n k)) after
       → (s : List ℕ)
       × (Fits card s × ((t : List ℕ) × Fits card t × (t ≡ s → ⊥)) × ((t : List ℕ) → Fits card t → (t ≡ s) ⊎ Before s t))
       × ((n ≡ length s) × Letters s before after)
   several_means b = (means b).2
 
   -- "none means none"
-  pub none_means : {k : ℕ} → Builds most_entries card budget before (None k) after → ((t : List ℕ) → Fits card t → ⊥) × (after ≡ before)
+  pub none_means : {k : ℕ} → Builds most_entries card budget before (given (None k)) after → ((t : List ℕ) → Fits card t → ⊥) × (after ≡ before)
   none_means b = (means b).2
 
   -- "Unsettled comes only on span cards, exactly when the walk of 01 needs more placements than the budget": only then, and (`unsettled_when`)
   -- always then
-  pub unsettled_means : {k : ℕ} → Builds most_entries card budget before (Unsettled k) after
+  pub unsettled_means : {k : ℕ} → Builds most_entries card budget before (given (Unsettled k)) after
       → (((told_by card).kind ≡ span) × (k ≡ budget) × (budget < placements (told_by card).l (slots_on card))) × (after ≡ before)
   unsettled_means b = (means b).1
 
   -- "On span cards placements are that walk's, cut at the budget.": here those of an answer that settles
-  pub sole_placements : {n k : ℕ} → Builds most_entries card budget before (Sole n k) after → PlacementsOf card budget k
+  pub sole_placements : {n k : ℕ} → Builds most_entries card budget before (given (Sole n k)) after → PlacementsOf card budget k
   sole_placements b = (means b).1
 
-  pub several_placements : {n k : ℕ} → Builds most_entries card budget before (Several n k) after → PlacementsOf card budget k
+  pub several_placements : {n k : ℕ} → Builds most_entries card budget before (given (Several n k)) after → PlacementsOf card budget k
   several_placements b = (means b).1
 
-  pub none_placements : {k : ℕ} → Builds most_entries card budget before (None k) after → PlacementsOf card budget k
+  pub none_placements : {k : ℕ} → Builds most_entries card budget before (given (None k)) after → PlacementsOf card budget k
   none_placements b = (means b).1
 
 -- the same the other way round: of a card whose tests hold, what fits it and whether its placements are within the budget give the answer.
@@ -149,47 +146,47 @@ pub placed_when : (card : List ℕ) (room : ℕ) {budget : ℕ} → Passes card 
     → (k : ℕ) × PlacementsOf card budget k
 placed_when card room passes within = placed_within card room passes within
 
-module _ {card before after : List ℕ} {budget : ℕ} {r : BuildAnswer} (b : Builds most_entries card budget before r after)
+module _ {card before after : List ℕ} {budget : ℕ} {r : Answer BuildAnswer} (b : Builds most_entries card budget before r after)
     (passes : Passes card (length before)) where
   module _ {k : ℕ} (placed : PlacementsOf card budget k) where
-    pub sole_when : {s : List ℕ} → Fits card s → ((t : List ℕ) → Fits card t → t ≡ s) → (r ≡ Sole (length s) k) × Letters s before after
-    sole_when {s} fits only = means_when b (Sole (length s) k) (passes, placed, (s, (fits, only), (refl, refl)))
+    pub sole_when : {s : List ℕ} → Fits card s → ((t : List ℕ) → Fits card t → t ≡ s) → (r ≡ given (Sole (length s) k)) × Letters s before after
+    sole_when {s} fits only = means_when b (given (Sole (length s) k)) (passes, placed, (s, (fits, only), (refl, refl)))
 
     pub several_when : {s : List ℕ} → Fits card s → (t : List ℕ) → Fits card t → (t ≡ s → ⊥)
         → ((u : List ℕ) → Fits card u → (u ≡ s) ⊎ Before s u)
-        → (r ≡ Several (length s) k) × Letters s before after
+        → (r ≡ given (Several (length s) k)) × Letters s before after
     several_when {s} fits t also other first-of-all =
-        means_when b (Several (length s) k) (passes, placed, (s, (fits, (t, also, other), first-of-all), (refl, refl)))
+        means_when b (given (Several (length s) k)) (passes, placed, (s, (fits, (t, also, other), first-of-all), (refl, refl)))
 
-    pub none_when : ((t : List ℕ) → Fits card t → ⊥) → (r ≡ None k) × (after ≡ before)
-    none_when nobody = means_when b (None k) (passes, placed, (nobody, refl))
+    pub none_when : ((t : List ℕ) → Fits card t → ⊥) → (r ≡ given (None k)) × (after ≡ before)
+    none_when nobody = means_when b (given (None k)) (passes, placed, (nobody, refl))
 
   pub unsettled_when : (told_by card).kind ≡ span → budget < placements (told_by card).l (slots_on card)
-      → (r ≡ Unsettled budget) × (after ≡ before)
-  unsettled_when kind over = means_when b (Unsettled budget) (passes, ((kind, refl, over), refl))
+      → (r ≡ given (Unsettled budget)) × (after ≡ before)
+  unsettled_when kind over = means_when b (given (Unsettled budget)) (passes, ((kind, refl, over), refl))
 
 -- "Entries that the writer accepts read back as themselves"
-pub written_reads_back : {kind l : ℕ} {words ones twos before after : List ℕ} {r : Written} {n : ℕ}
+pub written_reads_back : {kind l : ℕ} {words ones twos before after : List ℕ} {r : Answer ℕ} {n : ℕ}
     → Writes most_entries kind l words ones twos before r after
-    → says_written r ≡ given n
+    → r ≡ given n
     → GivesBack most_entries kind l words ones twos (take n after)
 written_reads_back = read_back
 
 -- "an admitted card written again gives its own bytes"
-pub admitted_written_again : {card a b c a' b' c' : List ℕ} {q : Admitted} {f : Format} → Listed most_entries card a b c q a' b' c'
-    → says_admitted q ≡ given f
-    → {before after : List ℕ} {r : Written}
+pub admitted_written_again : {card a b c a' b' c' : List ℕ} {q : Answer Format} {f : Format} → Listed most_entries card a b c q a' b' c'
+    → q ≡ given f
+    → {before after : List ℕ} {r : Answer ℕ}
     → Writes most_entries f.kind f.l (take f.m a') (take f.m b') (take f.m c') before r after
     → length card ≤ length before
-    → (says_written r ≡ given (length card)) × (after ≡ card ++ drop (length card) before)
+    → (r ≡ given (length card)) × (after ≡ card ++ drop (length card) before)
 admitted_written_again listed told did = written_again listed told did
 
 -- ---- demand 3
 
-module _ {card card' before before' after after' : List ℕ} {b : ℕ} {r : BuildAnswer} (more : Widened card card')
+module _ {card card' before before' after after' : List ℕ} {b : ℕ} {r : Answer BuildAnswer} (more : Widened card card')
     (p : Builds most_entries card b before r after) where
   -- "If both settle, a build on the first means one on the second, alphabetically no later"
-  pub no_later : {c : ℕ} {r' : BuildAnswer} → Builds most_entries card' c before' r' after' → HasBuild r → Settles r'
+  pub no_later : {c : ℕ} {r' : Answer BuildAnswer} → Builds most_entries card' c before' r' after' → HasBuild r → Settles r'
       → (s : List ℕ) × (t : List ℕ) × (Fits card s × Fits card' t) × (Letters s before after × Letters t before' after')
       × (HasBuild r' × ((t ≡ s) ⊎ Before t s))
   no_later q g k =
@@ -201,7 +198,7 @@ module _ {card card' before before' after after' : List ℕ} {b : ℕ} {r : Buil
       (gives_build p.said (rw p.answer at g))))
 
   -- "several stays several"
-  pub several_stays : {c : ℕ} {r' : BuildAnswer} → Builds most_entries card' c before' r' after' → IsSeveral r → Settles r' → IsSeveral r'
+  pub several_stays : {c : ℕ} {r' : Answer BuildAnswer} → Builds most_entries card' c before' r' after' → IsSeveral r → Settles r' → IsSeveral r'
   several_stays q (n, j, e) k =
       let a = said_several p.said (sym e ∙ p.answer) in
       let z = settles_given q.said (rw q.answer at k) in
@@ -211,8 +208,8 @@ module _ {card card' before before' after after' : List ℕ} {b : ℕ} {r : Buil
   -- "If a budget settles the second as sole or none, it settles the first in no more placements, as none or that same sole sequence.":
   -- where there is "room for the sequence" on the first too
   module _ (hold : Passes card (length before)) where
-    pub sole_narrows : {n k : ℕ} → Builds most_entries card' b before' (Sole n k) after'
-        → (j : ℕ) × (j ≤ k) × ((r ≡ None j) ⊎ ((r ≡ Sole n j) × (take n after ≡ take n after')))
+    pub sole_narrows : {n k : ℕ} → Builds most_entries card' b before' (given (Sole n k)) after'
+        → (j : ℕ) × (j ≤ k) × ((r ≡ given (None j)) ⊎ ((r ≡ given (Sole n j)) × (take n after ≡ take n after')))
     sole_narrows q =
         let a = holds_given p.says hold in
         let z = said_sole q.said q.answer in
@@ -220,7 +217,7 @@ module _ {card card' before before' after after' : List ℕ} {b : ℕ} {r : Buil
         sole_narrowed_told a.0 z.0 before before' (rw a.1 at p.answer) (rw a.1 at p.output) z.2
         (rw z.1 at q.output) (rw (a.1, z.1) at h)
 
-    pub none_narrows : {k : ℕ} → Builds most_entries card' b before' (None k) after' → (j : ℕ) × (j ≤ k) × (r ≡ None j)
+    pub none_narrows : {k : ℕ} → Builds most_entries card' b before' (given (None k)) after' → (j : ℕ) × (j ≤ k) × (r ≡ given (None j))
     none_narrows q =
         let a = holds_given p.says hold in
         let z = said_none q.said q.answer in
@@ -229,12 +226,12 @@ module _ {card card' before before' after after' : List ℕ} {b : ℕ} {r : Buil
 
 -- what an answer gives is the sequence that stands there
 pub sequence_stands : (s before : List ℕ) (k : ℕ) {after : List ℕ} → Letters s before after
-    → (sequence_in (Sole (length s) k) after ≡ map letter_of s) × (sequence_in (Several (length s) k) after ≡ map letter_of s)
+    → (sequence_in (given (Sole (length s) k)) after ≡ map letter_of s) × (sequence_in (given (Several (length s) k)) after ≡ map letter_of s)
 sequence_stands s before k e = rw e (letters_start s before, letters_start s before)
 
 -- "On one card, a settled answer and its placements stay the same under every larger budget.": and so does the sequence, whatever the second
 -- output was, if it has room
-pub larger_budget_same : {card before before' after after' : List ℕ} {b c : ℕ} {r r' : BuildAnswer} → b ≤ c → Settles r
+pub larger_budget_same : {card before before' after after' : List ℕ} {b c : ℕ} {r r' : Answer BuildAnswer} → b ≤ c → Settles r
     → Builds most_entries card b before r after
     → Builds most_entries card c before' r' after'
     → Passes card (length before')
@@ -247,7 +244,7 @@ larger_budget_same {before} {before'} h s p q passes =
     )
 
 -- with one output for both, no byte of it differs
-pub larger_budget_output : {card before after after' : List ℕ} {b c : ℕ} {r r' : BuildAnswer} → b ≤ c → Settles r
+pub larger_budget_output : {card before after after' : List ℕ} {b c : ℕ} {r r' : Answer BuildAnswer} → b ≤ c → Settles r
     → Builds most_entries card b before r after
     → Builds most_entries card c before r' after'
     → (r ≡ r') × (after ≡ after')

@@ -1,5 +1,5 @@
 -- Laws of what build says of a card, by which the demands are read off. Assumes nothing.
-use mathlib.Core.Path.{◌≡◌, refl, sym, ap}
+use mathlib.Core.Path.{◌≡◌, refl, sym}
 use mathlib.Core.Logic.{◌⊎◌, inl, inr, ⊎_map, ⊎_elim}
 use mathlib.Core.List.{List, map}
 use Prim.Native.Nat.{ℕ, ◌+◌, ◌^◌, ◌<◌}
@@ -7,7 +7,6 @@ use native.Mathlib.Omega.{arith}
 use lib.ListN.{length, length-map}
 use lib.Dec.{eqb}
 use borrow.Author.Tests.{leb-true, eqb-true}
-use Rattle.base_answers.specs.declared.Refusal.{Refusal}
 use Rattle.base_answers.specs.Answer.{Answer, given, refused, first, sound}
 use Rattle.base_lists.specs.Row.{row}
 use Rattle.base_lists.proofs.RowLaws.{length_row, row_same}
@@ -34,8 +33,7 @@ use Rattle.build_sequence.proofs.BuildLaws.{entries_fit}
 use Rattle.span_theory.specs.Walk.{placements}
 use Rattle.span_theory.specs.Settling as spans
 use Rattle.pair_theory.specs.Settling as pairs
-use Rattle.build_card.specs.declared.BuildAnswer.{BuildAnswer}
-use Rattle.build_card.specs.declared.BuildAnswer.TheVariants.{Sole, Several, None, Unsettled, Refused}
+use Rattle.build_card.specs.declared.BuildAnswer.TheVariants.{Sole, Several, None, Unsettled}
 use Rattle.build_card.specs.Building.{build_tests, Means, on_pairs, on_spans, Says, tells, refuses, answer_of}
 use Rattle.build_card.proofs.CardLaws.{order_held}
 use Rattle.proved_demands.specs.Demanded.{Passes, PlacementsOf, HasBuild, Settles}
@@ -58,79 +56,45 @@ pub means_placements : {card : List ℕ} {budget : ℕ} {v : Verdict} {n : ℕ}
 means_placements (on_pairs e (pairs.settles t)) = record { on_spans = λ f. absurd (omega (arith, e, f)); on_pairs = λ f. refl }
 means_placements (on_spans e (spans.settles a b t)) = record { on_spans = λ f. (a, b); on_pairs = λ f. absurd (omega (arith, e, f)) }
 
--- ---- what is said, had back from the enum
-
-which : BuildAnswer → ℕ
-which (Sole n k) = 1
-which (Several n k) = 2
-which (None k) = 3
-which (Unsettled k) = 4
-which (Refused r) = 5
-
-length_of : BuildAnswer → ℕ
-length_of (Sole n k) = n
-length_of (Several n k) = n
-length_of (None k) = 0
-length_of (Unsettled k) = 0
-length_of (Refused r) = 0
-
-placed_of : BuildAnswer → ℕ
-placed_of (Sole n k) = k
-placed_of (Several n k) = k
-placed_of (None k) = k
-placed_of (Unsettled k) = k
-placed_of (Refused r) = 0
+-- ---- what is said, had back from the answer
 
 module _ {n k : ℕ} where
-  pub said_sole : (a : Answer Outcome) → Sole n k ≡ answer_of a → (s : List ℕ) × (a ≡ given (settled (sole s) k)) × (n ≡ length s)
-  unfolding which length_of placed_of
-  said_sole (given (settled (sole s) j)) e =
-      (s, ap (λ (x : ℕ). given (settled (sole s) x)) (sym (ap placed_of e)), ap length_of e)
-  said_sole (given (settled (several s) j)) e = absurd (omega (arith, ap which e))
-  said_sole (given (settled no_build j)) e = absurd (omega (arith, ap which e))
-  said_sole (given (unsettled j)) e = absurd (omega (arith, ap which e))
-  said_sole (refused i j) e = absurd (omega (arith, ap which e))
+  pub said_sole : (a : Answer Outcome) → given (Sole n k) ≡ answer_of a → (s : List ℕ) × (a ≡ given (settled (sole s) k)) × (n ≡ length s)
+  said_sole (given (settled (sole s) j)) e = (s, cc, cc)
+  said_sole (given (settled (several s) j)) e = cc
+  said_sole (given (settled no_build j)) e = cc
+  said_sole (given (unsettled j)) e = cc
+  said_sole (refused i j) e = cc
 
-  pub said_several : (a : Answer Outcome) → Several n k ≡ answer_of a → (s : List ℕ) × (a ≡ given (settled (several s) k)) × (n ≡ length s)
-  unfolding which length_of placed_of
-  said_several (given (settled (several s) j)) e =
-      (s, ap (λ (x : ℕ). given (settled (several s) x)) (sym (ap placed_of e)), ap length_of e)
-  said_several (given (settled (sole s) j)) e = absurd (omega (arith, ap which e))
-  said_several (given (settled no_build j)) e = absurd (omega (arith, ap which e))
-  said_several (given (unsettled j)) e = absurd (omega (arith, ap which e))
-  said_several (refused i j) e = absurd (omega (arith, ap which e))
+  pub said_several : (a : Answer Outcome) → given (Several n k) ≡ answer_of a
+      → (s : List ℕ) × (a ≡ given (settled (several s) k)) × (n ≡ length s)
+  said_several (given (settled (several s) j)) e = (s, cc, cc)
+  said_several (given (settled (sole s) j)) e = cc
+  said_several (given (settled no_build j)) e = cc
+  said_several (given (unsettled j)) e = cc
+  said_several (refused i j) e = cc
 
 module _ {k : ℕ} where
-  pub said_none : (a : Answer Outcome) → None k ≡ answer_of a → a ≡ given (settled no_build k)
-  unfolding which placed_of
-  said_none (given (settled no_build j)) e = ap (λ (x : ℕ). given (settled no_build x)) (sym (ap placed_of e))
-  said_none (given (settled (sole s) j)) e = absurd (omega (arith, ap which e))
-  said_none (given (settled (several s) j)) e = absurd (omega (arith, ap which e))
-  said_none (given (unsettled j)) e = absurd (omega (arith, ap which e))
-  said_none (refused i j) e = absurd (omega (arith, ap which e))
+  pub said_none : (a : Answer Outcome) → given (None k) ≡ answer_of a → a ≡ given (settled no_build k)
+  said_none (given (settled no_build j)) e = cc
+  said_none (given (settled (sole s) j)) e = cc
+  said_none (given (settled (several s) j)) e = cc
+  said_none (given (unsettled j)) e = cc
+  said_none (refused i j) e = cc
 
-  pub said_unsettled : (a : Answer Outcome) → Unsettled k ≡ answer_of a → a ≡ given (unsettled k)
-  unfolding which placed_of
-  said_unsettled (given (unsettled j)) e = ap (λ (x : ℕ). given (unsettled x)) (sym (ap placed_of e))
-  said_unsettled (given (settled (sole s) j)) e = absurd (omega (arith, ap which e))
-  said_unsettled (given (settled (several s) j)) e = absurd (omega (arith, ap which e))
-  said_unsettled (given (settled no_build j)) e = absurd (omega (arith, ap which e))
-  said_unsettled (refused i j) e = absurd (omega (arith, ap which e))
+  pub said_unsettled : (a : Answer Outcome) → given (Unsettled k) ≡ answer_of a → a ≡ given (unsettled k)
+  said_unsettled (given (unsettled j)) e = cc
+  said_unsettled (given (settled (sole s) j)) e = cc
+  said_unsettled (given (settled (several s) j)) e = cc
+  said_unsettled (given (settled no_build j)) e = cc
+  said_unsettled (refused i j) e = cc
 
-refusal_of : BuildAnswer → Refusal
-refusal_of (Sole n k) = record { number = 0; place = 0 }
-refusal_of (Several n k) = record { number = 0; place = 0 }
-refusal_of (None k) = record { number = 0; place = 0 }
-refusal_of (Unsettled k) = record { number = 0; place = 0 }
-refusal_of (Refused r) = r
-
-pub said_refused : {r : Refusal} (a : Answer Outcome) → Refused r ≡ answer_of a → a ≡ refused r.number r.place
-unfolding which refusal_of
-said_refused (refused i j) e = ap (λ (x : Refusal). refused x.number x.place) (sym (ap refusal_of e))
-said_refused (given (settled (sole s) j)) e = absurd (omega (arith, ap which e))
-said_refused (given (settled (several s) j)) e = absurd (omega (arith, ap which e))
-said_refused (given (settled no_build j)) e = absurd (omega (arith, ap which e))
-said_refused (given (unsettled j)) e = absurd (omega (arith, ap which e))
+pub said_refused : {n p : ℕ} (a : Answer Outcome) → refused n p ≡ answer_of a → a ≡ refused n p
+said_refused (refused i j) e = cc
+said_refused (given (settled (sole s) j)) e = cc
+said_refused (given (settled (several s) j)) e = cc
+said_refused (given (settled no_build j)) e = cc
+said_refused (given (unsettled j)) e = cc
 
 -- what settles a card is a verdict
 pub settles_given : (a : Answer Outcome) → Settles (answer_of a) → (v : Verdict) × (n : ℕ) × (a ≡ given (settled v n))
@@ -140,7 +104,7 @@ settles_given a s = ⊎_elim built nobody s
     built (n, k, e) =
         ⊎_elim (λ h. let z = said_sole a (sym h) in (sole z.0, k, z.1)) (λ h. let z = said_several a (sym h) in (several z.0, k, z.1)) e
 
-    nobody : (k : ℕ) × (answer_of a ≡ None k) → (v : Verdict) × (n : ℕ) × (a ≡ given (settled v n))
+    nobody : (k : ℕ) × (answer_of a ≡ given (None k)) → (v : Verdict) × (n : ℕ) × (a ≡ given (settled v n))
     nobody (k, h) = (no_build, k, said_none a (sym h))
 
 -- and a verdict settles it

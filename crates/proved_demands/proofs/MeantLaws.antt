@@ -23,7 +23,7 @@ use Rattle.span_theory.specs.Walk.{placements}
 use Rattle.span_theory.specs.Settling as spans
 use Rattle.pair_theory.specs.Settling as pairs
 use Rattle.build_card.specs.declared.BuildAnswer.{BuildAnswer}
-use Rattle.build_card.specs.declared.BuildAnswer.TheVariants.{Sole, Several, None, Unsettled, Refused}
+use Rattle.build_card.specs.declared.BuildAnswer.TheVariants.{Sole, Several, None, Unsettled}
 use Rattle.build_card.specs.Building.{build_tests, on_pairs, on_spans, Says, tells, refuses, answer_of, letters_after, Builds}
 use Rattle.proved_demands.specs.Demanded.{Fits, Passes, PlacementsOf, Meant}
 use Rattle.proved_demands.proofs.MeaningLaws.{means_tells, means_placements, means_unsettled, card_kind}
@@ -55,28 +55,28 @@ module _ (card : List ℕ) (room : ℕ) (passes : Passes card room) {budget k : 
       on_span : (told_by card).kind ≡ span → Says most_entries card budget room (given (settled v k))
       on_span e = let p = placed.on_spans e in tells passes (on_spans e (spans.settles {v = v} p.0 p.1 (told_by_lem e)))
 
-pub meant_builds : {card before after : List ℕ} {budget : ℕ} (r : BuildAnswer) → Meant card budget before r after
+pub meant_builds : {card before after : List ℕ} {budget : ℕ} (r : Answer BuildAnswer) → Meant card budget before r after
     → Builds most_entries card budget before r after
-meant_builds {card} {before} (Sole n k) (passes, placed, (s, told, (size, out))) =
+meant_builds {card} {before} (given (Sole n k)) (passes, placed, (s, told, (size, out))) =
     record {
       said = given (settled (sole s) k);
       says = verdict_said card (length before) passes placed (sole s) told;
-      answer = ap (λ x. Sole x k) size;
+      answer = ap (λ x. given (Sole x k)) size;
       output = out;
     }
-meant_builds {card} {before} (Several n k) (passes, placed, (s, told, (size, out))) =
+meant_builds {card} {before} (given (Several n k)) (passes, placed, (s, told, (size, out))) =
     record {
       said = given (settled (several s) k);
       says = verdict_said card (length before) passes placed (several s) told;
-      answer = ap (λ x. Several x k) size;
+      answer = ap (λ x. given (Several x k)) size;
       output = out;
     }
-meant_builds {card} {before} (None k) (passes, placed, (told, out)) =
+meant_builds {card} {before} (given (None k)) (passes, placed, (told, out)) =
     record { said = given (settled no_build k); says = verdict_said card (length before) passes placed no_build told; answer = refl; output = out }
-meant_builds (Unsettled k) (passes, ((kind, at, over), out)) =
+meant_builds (given (Unsettled k)) (passes, ((kind, at, over), out)) =
     record { said = given (unsettled k); says = tells passes (on_spans kind (spans.goes_on at over)); answer = refl; output = out }
-meant_builds (Refused r) (e, out) =
-    record { said = refused r.number r.place; says = refuses e; answer = refl; output = out }
+meant_builds (refused n p) (e, out) =
+    record { said = refused n p; says = refuses e; answer = refl; output = out }
 
 -- ---- and there is always one
 
@@ -91,15 +91,15 @@ placed_within card room passes within =
 
 module _ (card : List ℕ) (budget : ℕ) (before : List ℕ) where
   abbrev pub SomeMeant : Type 0
-  SomeMeant = (r : BuildAnswer) × (after : List ℕ) × Meant card budget before r after
+  SomeMeant = (r : Answer BuildAnswer) × (after : List ℕ) × Meant card budget before r after
 
   -- of a card whose tests hold a verdict over all builds, which there is (`enumerated`)
   verdict_meant : (v : Verdict) (k : ℕ) → Passes card (length before) → PlacementsOf card budget k → Tells (Fits card) v → SomeMeant
   verdict_meant (sole s) k passes placed told =
-      (Sole (length s) k, map letter_of s ++ drop (length s) before, (passes, placed, (s, told, (refl, refl))))
+      (given (Sole (length s) k), map letter_of s ++ drop (length s) before, (passes, placed, (s, told, (refl, refl))))
   verdict_meant (several s) k passes placed told =
-      (Several (length s) k, map letter_of s ++ drop (length s) before, (passes, placed, (s, told, (refl, refl))))
-  verdict_meant no_build k passes placed told = (None k, before, (passes, placed, (told, refl)))
+      (given (Several (length s) k), map letter_of s ++ drop (length s) before, (passes, placed, (s, told, (refl, refl))))
+  verdict_meant no_build k passes placed told = (given (None k), before, (passes, placed, (told, refl)))
 
   settled_meant : Passes card (length before) → ((told_by card).kind ≡ span → placements (told_by card).l (slots_on card) ≤ budget) → SomeMeant
   settled_meant passes within =
@@ -116,10 +116,10 @@ module _ (card : List ℕ) (budget : ℕ) (before : List ℕ) where
           → SomeMeant
       on_span true e kind passes = settled_meant passes (λ f. leb-true (placements (told_by card).l (slots_on card)) budget e)
       on_span false e kind passes =
-          (Unsettled budget, before, (passes, ((kind, refl, leb-false (placements (told_by card).l (slots_on card)) budget e), refl)))
+          (given (Unsettled budget), before, (passes, ((kind, refl, leb-false (placements (told_by card).l (slots_on card)) budget e), refl)))
 
       tried : (a : Answer Sound) → first (build_tests most_entries card (length before)) sound ≡ a → SomeMeant
-      tried (refused n p) e = (Refused (record { number = n; place = p }), before, (e, refl))
+      tried (refused n p) e = (refused n p, before, (e, refl))
       tried (given sound) e =
           ⊎_elim (λ kind. settled_meant e (λ f. absurd (omega (arith, kind, f))))
           (λ kind. on_span (leb (placements (told_by card).l (slots_on card)) budget) refl kind e)

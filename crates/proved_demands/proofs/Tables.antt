@@ -36,7 +36,7 @@ tables_hold t h budget g =
     (in_append pair_tables h)
 
 -- what build answers, and writes, on a card whose tests hold and that has an outcome
-module _ {card before after : List ℕ} {budget : ℕ} {r : BuildAnswer} (b : Builds most_entries card budget before r after)
+module _ {card before after : List ℕ} {budget : ℕ} {r : Answer BuildAnswer} (b : Builds most_entries card budget before r after)
     (hold : Passes card (length before))
     (t : Table) (on : OnCard t card) where
   outcome_answered : {o : Outcome} → Means (kind_of t) 2 (stored_in t) budget o
@@ -58,8 +58,8 @@ module _ {card before after : List ℕ} {budget : ℕ} {r : BuildAnswer} (b : Bu
   table_answered h g = held_answered tables_hold h g
 
 -- S1: "budget 7 gives Unsettled"
-pub s1_at_seven : {card before after : List ℕ} {r : BuildAnswer} → Builds most_entries card 7 before r after
+pub s1_at_seven : {card before after : List ℕ} {r : Answer BuildAnswer} → Builds most_entries card 7 before r after
     → Passes card (length before)
     → OnCard s1 card
-    → (r ≡ Unsettled 7) × (after ≡ before)
+    → (r ≡ given (Unsettled 7)) × (after ≡ before)
 s1_at_seven b hold on = outcome_answered b hold s1 on (on_spans refl s1_unsettled)

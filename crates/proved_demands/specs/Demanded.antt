@@ -12,7 +12,7 @@
 --                            == the answer r gives a build, says that there are several, settles the card
 -- Assumes nothing.
 use Rattle.std.specs.Prelude.{◌≡◌, ◌⊎◌, List, [], ◌++◌, map, ℕ, ◌≤◌, ◌<◌, length, take, drop}
-use Rattle.base_answers.specs.Answer.{given, refused, first, sound}
+use Rattle.base_answers.specs.Answer.{Answer, given, refused, first, sound}
 use Rattle.base_letters.specs.Letters.{letter_of}
 use Rattle.card_entries.specs.Fault.{pair, span}
 use Rattle.card_entries.specs.Bounds.{most_entries}
@@ -22,7 +22,7 @@ use Rattle.build_sequence.specs.Build.{Build}
 use Rattle.build_sequence.specs.Verdict.{sole, several, no_build, Tells, Widens}
 use Rattle.span_theory.specs.Walk.{placements}
 use Rattle.build_card.specs.declared.BuildAnswer.{BuildAnswer}
-use Rattle.build_card.specs.declared.BuildAnswer.TheVariants.{Sole, Several, None, Unsettled, Refused}
+use Rattle.build_card.specs.declared.BuildAnswer.TheVariants.{Sole, Several, None, Unsettled}
 use Rattle.build_card.specs.Building.{build_tests}
 
 -- the sequence s is a build of the card (`Build`: what an arrangement of its entries spells)
@@ -47,40 +47,40 @@ Letters s before after = after ≡ map letter_of s ++ drop (length s) before
 -- "Sole means exactly one sequence fits, several means two or more and gives the alphabetically first, none means none. Unsettled comes
 -- only on span cards, exactly when the walk of 01 needs more placements than the budget."; "A refusal carries its number and place, and no
 -- byte of a lent buffer differs after it."
-abbrev pub Meant : List ℕ → ℕ → List ℕ → BuildAnswer → List ℕ → Type 0
-Meant card budget before (Sole n k) after =
+abbrev pub Meant : List ℕ → ℕ → List ℕ → Answer BuildAnswer → List ℕ → Type 0
+Meant card budget before (given (Sole n k)) after =
     Passes card (length before) × PlacementsOf card budget k
     × ((s : List ℕ) × Tells (Fits card) (sole s) × ((n ≡ length s) × Letters s before after))
-Meant card budget before (Several n k) after =
+Meant card budget before (given (Several n k)) after =
     Passes card (length before) × PlacementsOf card budget k
     × ((s : List ℕ) × Tells (Fits card) (several s) × ((n ≡ length s) × Letters s before after))
-Meant card budget before (None k) after =
+Meant card budget before (given (None k)) after =
     Passes card (length before) × PlacementsOf card budget k × (Tells (Fits card) no_build × (after ≡ before))
-Meant card budget before (Unsettled k) after =
+Meant card budget before (given (Unsettled k)) after =
     Passes card (length before)
     × ((((told_by card).kind ≡ span) × (k ≡ budget) × (budget < placements (told_by card).l (slots_on card))) × (after ≡ before))
-Meant card budget before (Refused r) after =
-    (first (build_tests most_entries card (length before)) sound ≡ refused r.number r.place) × (after ≡ before)
+Meant card budget before (refused n p) after =
+    (first (build_tests most_entries card (length before)) sound ≡ refused n p) × (after ≡ before)
 
 -- ---- demand 3
 
-abbrev pub HasBuild : BuildAnswer → Type 0
-HasBuild r = (n : ℕ) × (k : ℕ) × ((r ≡ Sole n k) ⊎ (r ≡ Several n k))
+abbrev pub HasBuild : Answer BuildAnswer → Type 0
+HasBuild r = (n : ℕ) × (k : ℕ) × ((r ≡ given (Sole n k)) ⊎ (r ≡ given (Several n k)))
 
-abbrev pub IsSeveral : BuildAnswer → Type 0
-IsSeveral r = (n : ℕ) × (k : ℕ) × (r ≡ Several n k)
+abbrev pub IsSeveral : Answer BuildAnswer → Type 0
+IsSeveral r = (n : ℕ) × (k : ℕ) × (r ≡ given (Several n k))
 
 -- neither unsettled nor refused
-abbrev pub Settles : BuildAnswer → Type 0
-Settles r = HasBuild r ⊎ ((k : ℕ) × (r ≡ None k))
+abbrev pub Settles : Answer BuildAnswer → Type 0
+Settles r = HasBuild r ⊎ ((k : ℕ) × (r ≡ given (None k)))
 
 -- the letters that an answer gives stand at the start of the output
-abbrev pub sequence_in : BuildAnswer → List ℕ → List ℕ
-sequence_in (Sole n k) after = take n after
-sequence_in (Several n k) after = take n after
-sequence_in (None k) after = []
-sequence_in (Unsettled k) after = []
-sequence_in (Refused r) after = []
+abbrev pub sequence_in : Answer BuildAnswer → List ℕ → List ℕ
+sequence_in (given (Sole n k)) after = take n after
+sequence_in (given (Several n k)) after = take n after
+sequence_in (given (None k)) after = []
+sequence_in (given (Unsettled k)) after = []
+sequence_in (refused n p) after = []
 
 -- "Take two admitted cards of one kind and word length whose entries pair off with equal words, every place allowed on the first being
 -- allowed on the second"

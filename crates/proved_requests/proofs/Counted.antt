@@ -35,8 +35,7 @@ use Rattle.pair_theory.specs.Settling.{pair_entries}
 use Rattle.build_card.specs.declared.BuildAnswer.{BuildAnswer}
 use Rattle.build_card.specs.Building.{answer_of, Builds}
 use Rattle.build_card.proofs.CardLaws.{order_held}
-use Rattle.build_count.specs.declared.Number.{Number}
-use Rattle.build_count.specs.declared.Number.TheVariants as number
+use Rattle.std.specs.Prelude.{Option, Some, None}
 use Rattle.build_count.specs.Counting.{tells, refuses, OfCard, OfLists, number_of, Counts}
 use Rattle.build_count.proofs.CountingLaws.{tests_hold, hold_tests, span_refused, counted_one}
 use Rattle.build_count.proofs.CardLaws.{other_tests}
@@ -67,43 +66,43 @@ module _ (card : List ℕ) where
       go no_builds order kind m = (record { admitted = order; kind = kind }, many_empty (as_pairs kind m))
   said_means (refuses e) = e
 
-  pub number_means : {q : Number} → Counts number_of (OfCard most_entries card) q → NumberMeans card q
+  pub number_means : {q : Answer (Option ℕ)} → Counts number_of (OfCard most_entries card) q → NumberMeans card q
   number_means c = rw c.answer (said_means c.says)
 
-  pub means_number : (q : Number) → NumberMeans card q → Counts number_of (OfCard most_entries card) q
-  means_number (number.Power k) (on, m) =
+  pub means_number : (q : Answer (Option ℕ)) → NumberMeans card q → Counts number_of (OfCard most_entries card) q
+  means_number (given (Some k)) (on, m) =
       record {
         said = given (two_to k);
         says = tells (hold_tests (reading_order most_entries card) _ on.admitted on.kind) (of_pairs on.kind m);
         answer = refl;
       }
-  means_number number.None (on, none) =
+  means_number (given None) (on, none) =
       record {
         said = given no_builds;
         says = tells (hold_tests (reading_order most_entries card) _ on.admitted on.kind) (of_pairs on.kind (many_none none));
         answer = refl;
       }
-  means_number (number.Refused r) e = record { said = refused r.number r.place; says = refuses e; answer = refl }
+  means_number (refused n p) e = record { said = refused n p; says = refuses e; answer = refl }
 
 -- "For every pair card": one that is admitted is not refused
-pub counted_always : (card : List ℕ) {q : Number} → OnPairCard card → Counts number_of (OfCard most_entries card) q
-    → ((k : ℕ) × (q ≡ number.Power k)) ⊎ (q ≡ number.None)
+pub counted_always : (card : List ℕ) {q : Answer (Option ℕ)} → OnPairCard card → Counts number_of (OfCard most_entries card) q
+    → ((k : ℕ) × (q ≡ given (Some k))) ⊎ (q ≡ given None)
 counted_always card {q} on c = rw c.answer (go c.says)
   where
-    go : {a : Answer Power} → OfCard most_entries card a → ((k : ℕ) × (number_of a ≡ number.Power k)) ⊎ (number_of a ≡ number.None)
+    go : {a : Answer Power} → OfCard most_entries card a → ((k : ℕ) × (number_of a ≡ given (Some k))) ⊎ (number_of a ≡ given None)
     go (tells {p = two_to k} e m) = inl (k, refl)
     go (tells {p = no_builds} e m) = inr refl
     go (refuses e) = absurd (given_not_refused (sym (hold_tests (reading_order most_entries card) _ on.admitted on.kind) ∙ e))
 
 -- "Refusals: 5 on a span card."
-pub span_refused_5 : (card : List ℕ) {q : Number} → first (reading_order most_entries card) sound ≡ given sound → (told_by card).kind ≡ span
+pub span_refused_5 : (card : List ℕ) {q : Answer (Option ℕ)} → first (reading_order most_entries card) sound ≡ given sound → (told_by card).kind ≡ span
     → Counts number_of (OfCard most_entries card) q
-    → q ≡ number.Refused (record { number = Kind; place = 0 })
+    → q ≡ refused Kind 0
 span_refused_5 card order kind c =
     c.answer ∙ ap number_of (counted_one c.says (refuses (span_refused (reading_order most_entries card) _ order kind)))
 
 -- lists that hold have the number of the card that the writer makes of them
-pub lists_as_card : (kind l : ℕ) (words ones twos : List ℕ) {q q' : Number}
+pub lists_as_card : (kind l : ℕ) (words ones twos : List ℕ) {q q' : Answer (Option ℕ)}
     → first (lists_tests most_entries kind l words ones twos) sound ≡ given sound
     → Counts number_of (OfLists most_entries kind l words ones twos) q
     → Counts number_of (OfCard most_entries (card_of (format_for kind l words) (slot_from words ones twos))) q'
@@ -119,7 +118,7 @@ lists_as_card kind l words ones twos hold c d =
 -- ---- it goes with build's verdict
 
 power_agrees : (v : Verdict) (p : Power) (n : ℕ) → NumberBy v (how_many p) → GoesWith (number_of (given p)) (answer_of (given (settled v n)))
-power_agrees (sole s) (two_to k) n e = ap number.Power (exponent_one k 0 e)
+power_agrees (sole s) (two_to k) n e = ap (λ x. given (Some x)) (exponent_one k 0 e)
 power_agrees (sole s) no_builds n e = absurd (omega arith)
 power_agrees (several s) (two_to zero) n e = absurd (omega arith)
 power_agrees (several s) (two_to (suc k)) n e = (k, refl)
@@ -127,7 +126,7 @@ power_agrees (several s) no_builds n e = absurd (omega arith)
 power_agrees no_build (two_to k) n e = absurd (omega (arith, e, pow_pos k))
 power_agrees no_build no_builds n e = refl
 
-pub number_agrees : {card before after : List ℕ} {budget : ℕ} {q : Number} {r : BuildAnswer} → (told_by card).kind ≡ pair
+pub number_agrees : {card before after : List ℕ} {budget : ℕ} {q : Answer (Option ℕ)} {r : Answer BuildAnswer} → (told_by card).kind ≡ pair
     → Counts number_of (OfCard most_entries card) q
     → Builds most_entries card budget before r after
     → Settles r
@@ -153,7 +152,7 @@ tables_counted t h =
     (many_enumerated 2 t.table.entries)
 
 -- what is answered for a card of a table
-pub table_number : {card : List ℕ} {q : Number} → Counts number_of (OfCard most_entries card) q
+pub table_number : {card : List ℕ} {q : Answer (Option ℕ)} → Counts number_of (OfCard most_entries card) q
     → first (reading_order most_entries card) sound ≡ given sound
     → (t : CountedTable) → In t counted_tables → OnCard t.table card
     → q ≡ number_of (given t.builds)

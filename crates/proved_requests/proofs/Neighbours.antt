@@ -41,7 +41,7 @@ module _ {card card' : List ℕ} (x : Spanned card card') {s : List ℕ} where
   fits_pair b = rw (x.kind, x.letters) (build_wider (pairs_wider x.entries) (rw x.kind' at b))
 
 -- a card that is not refused settles where Unsettled is not true of it
-module _ {card before after : List ℕ} {b : ℕ} {r : BuildAnswer}
+module _ {card before after : List ℕ} {b : ℕ} {r : Answer BuildAnswer}
     (hold : first (build_tests most_entries card (length before)) sound ≡ given sound) (p : Builds most_entries card b before r after) where
   settles_by : ((n : ℕ) → Means (told_by card).kind (told_by card).l (slots_on card) b (unsettled n) → ⊥) → Settles r
   settles_by never =
@@ -61,7 +61,7 @@ module _ {card before after : List ℕ} {b : ℕ} {r : BuildAnswer}
 
 -- "the span card with the same words and places gives the same verdict and sequence whenever it settles": of any two such cards, at any two
 -- budgets
-pub spanned_same : {card card' before before' after after' : List ℕ} {b c : ℕ} {r r' : BuildAnswer} → Spanned card card'
+pub spanned_same : {card card' before before' after after' : List ℕ} {b c : ℕ} {r r' : Answer BuildAnswer} → Spanned card card'
     → Builds most_entries card b before r after → Builds most_entries card' c before' r' after' → Settles r → Settles r'
     → SameSaid before r after before' r' after'
 spanned_same {card} {card'} {before} {before'} x p q settles settles' =
@@ -111,7 +111,7 @@ module _ (card : List ℕ) {f : Format} (admitted : admission most_entries card 
 
   -- "where each pair is one place, or p and p+1, the span card with the same words and places gives the same verdict and sequence whenever
   -- it settles": where there is room for the sequence on the pair card too
-  pub near_card_same : {before before' after after' : List ℕ} {b c : ℕ} {r r' : BuildAnswer} → letters_in f ≤ length before
+  pub near_card_same : {before before' after after' : List ℕ} {b c : ℕ} {r r' : Answer BuildAnswer} → letters_in f ≤ length before
       → Builds most_entries card b before r after
       → Builds most_entries (span_card card) c before' r' after'
       → Settles r'

@@ -5,7 +5,6 @@ use mathlib.Core.Logic.{◌⊎◌}
 use mathlib.Core.List.{List}
 use Prim.Native.Nat.{ℕ, ◌≤◌, ◌<◌}
 use lib.ListN.{length}
-use Rattle.base_answers.specs.declared.Refusal.{Refusal}
 use Rattle.base_answers.specs.Numbers.{Kind, Room, Wider}
 use Rattle.base_answers.specs.Answer.{Answer, given, refused, first, sound}
 use Rattle.card_entries.specs.Slot.{slot_from, entries_in}
@@ -26,7 +25,7 @@ use Rattle.span_layers.specs.Narrow.{Narrow, crowd, most_over}
 use Rattle.span_layers.specs.Settling.{MeansNarrow, settles}
 use Rattle.span_layers.proofs.Crowded.{crowded_none}
 use Rattle.build_card.specs.declared.BuildAnswer.{BuildAnswer}
-use Rattle.build_card.specs.declared.BuildAnswer.TheVariants.{Sole, Several, None, Unsettled, Refused}
+use Rattle.build_card.specs.declared.BuildAnswer.TheVariants.{Sole, Several, None, Unsettled}
 use Rattle.build_card.specs.Building.{letters_in, build_tests, answer_of, letters_after, Builds}
 use Rattle.build_narrow.specs.Settling.{width_tests, lists_build_tests, settle_tests, tells}
 use Rattle.build_narrow.specs.Settling as narrow
@@ -48,7 +47,7 @@ use Rattle.proved_requests.proofs.SettledLaws.{refused_by, reader_refused, no_ro
 
 module _ (card : List ℕ) {before after : List ℕ} where
   -- "Sole means exactly one sequence fits"
-  pub settled_sole_means : {n k : ℕ} → SettlesCard card before (Sole n k) after
+  pub settled_sole_means : {n k : ℕ} → SettlesCard card before (given (Sole n k)) after
       → (OnNarrowCard card (length before) × (k ≡ 0))
       × ((s : List ℕ) × (Fits card s × ((t : List ℕ) → Fits card t → t ≡ s)) × ((n ≡ length s) × Letters s before after))
   settled_sole_means p =
@@ -58,7 +57,7 @@ module _ (card : List ℕ) {before after : List ℕ} where
       ((said_narrow card (length before) says, told.0), (a.0, told.1, (a.2, rw a.1 at p.output)))
 
   -- "several means two or more and gives the alphabetically first"
-  pub settled_several_means : {n k : ℕ} → SettlesCard card before (Several n k) after
+  pub settled_several_means : {n k : ℕ} → SettlesCard card before (given (Several n k)) after
       → (OnNarrowCard card (length before) × (k ≡ 0))
       × ((s : List ℕ)
       × (Fits card s × ((t : List ℕ) × Fits card t × (t ≡ s → ⊥)) × ((t : List ℕ) → Fits card t → (t ≡ s) ⊎ Before s t))
@@ -70,7 +69,7 @@ module _ (card : List ℕ) {before after : List ℕ} where
       ((said_narrow card (length before) says, told.0), (a.0, told.1, (a.2, rw a.1 at p.output)))
 
   -- "none means none"
-  pub settled_none_means : {k : ℕ} → SettlesCard card before (None k) after
+  pub settled_none_means : {k : ℕ} → SettlesCard card before (given (None k)) after
       → (OnNarrowCard card (length before) × (k ≡ 0)) × (((t : List ℕ) → Fits card t → ⊥) × (after ≡ before))
   settled_none_means p =
       let a = said_none p.said p.answer in
@@ -79,29 +78,29 @@ module _ (card : List ℕ) {before after : List ℕ} where
       ((said_narrow card (length before) says, told.0), (told.1, rw a at p.output))
 
   -- never Unsettled
-  pub settled_never_unsettled : {k : ℕ} → SettlesCard card before (Unsettled k) after → ⊥
+  pub settled_never_unsettled : {k : ℕ} → SettlesCard card before (given (Unsettled k)) after → ⊥
   settled_never_unsettled p = settles_unbudgeted p
 
   -- a refusal is that of the first test that fails, and no byte of the output differs after it
-  pub settle_refused_untouched : {r : Refusal} → SettlesCard card before (Refused r) after
+  pub settle_refused_untouched : {n q : ℕ} → SettlesCard card before (refused n q) after
       → (first (settle_tests (told_by card).kind (slots_on card) (build_tests most_entries card (length before))) sound
-      ≡ refused r.number r.place)
+      ≡ refused n q)
       × (after ≡ before)
   settle_refused_untouched p =
       let a = said_refused p.said p.answer in (said_refusal (rw a at p.says), rw a at p.output)
 
 -- the same from lists
-pub settle_lists_refused_untouched : (kind l : ℕ) (words ones twos : List ℕ) {before after : List ℕ} {r : Refusal}
-    → narrow.SettlesInto answer_of (narrow.OfLists most_entries kind l words ones twos (length before)) before (Refused r) after
+pub settle_lists_refused_untouched : (kind l : ℕ) (words ones twos : List ℕ) {before after : List ℕ} {n q : ℕ}
+    → narrow.SettlesInto answer_of (narrow.OfLists most_entries kind l words ones twos (length before)) before (refused n q) after
     → (first (settle_tests kind (entries_in words ones twos) (lists_build_tests most_entries kind l words ones twos (length before))) sound
-    ≡ refused r.number r.place)
+    ≡ refused n q)
     × (after ≡ before)
 settle_lists_refused_untouched kind l words ones twos p =
     let a = said_refused p.said p.answer in (said_refusal (rw a at p.says), rw a at p.output)
 
 -- ---- when it is given
 
-module _ (card : List ℕ) {before after : List ℕ} {r : BuildAnswer} (p : SettlesCard card before r after) where
+module _ (card : List ℕ) {before after : List ℕ} {r : Answer BuildAnswer} (p : SettlesCard card before r after) where
   module _ (on : OnNarrowCard card (length before)) where
     -- "Narrow spans always settled."
     pub settled_always : demands.Settles r
@@ -115,12 +114,12 @@ module _ (card : List ℕ) {before after : List ℕ} {r : BuildAnswer} (p : Sett
     settled_when v t = settled_by card p (tells_said card (length before) v on t)
 
     -- "A place with 8 or more spans over it means None."
-    pub crowded_is_none : (i : ℕ) → most_over < crowd i (slots_on card) → (r ≡ None 0) × (after ≡ before)
+    pub crowded_is_none : (i : ℕ) → most_over < crowd i (slots_on card) → (r ≡ given (None 0)) × (after ≡ before)
     crowded_is_none i h =
         settled_when no_build (as_spans card no_build on.kind (crowded_none (told_by card).l i (slots_on card) on.narrow h))
 
     -- "Wherever build settles, the two agree in verdict and sequence.": at any budget, into any output
-    pub settle_agrees : {before' after' : List ℕ} {b : ℕ} {r' : BuildAnswer} → Builds most_entries card b before' r' after' → demands.Settles r'
+    pub settle_agrees : {before' after' : List ℕ} {b : ℕ} {r' : Answer BuildAnswer} → Builds most_entries card b before' r' after' → demands.Settles r'
         → SameSaid before r after before' r' after'
     settle_agrees {before'} q settles' =
         let o = narrow_given card (length before) on p.says in
@@ -142,36 +141,36 @@ module _ (card : List ℕ) {before after : List ℕ} {r : BuildAnswer} (p : Sett
 
   -- the reader's
   pub settle_reader_first : {n q : ℕ} → first (reading_order most_entries card) sound ≡ refused n q
-      → (r ≡ Refused (record { number = n; place = q })) × (after ≡ before)
+      → (r ≡ refused n q) × (after ≡ before)
   settle_reader_first e = refused_by card p (reader_refused card (length before) e)
 
   module _ (admitted : first (reading_order most_entries card) sound ≡ given sound) where
     -- 12 next, whichever the kind and the widths
     pub settle_room_next : length before < letters_in (told_by card)
-        → (r ≡ Refused (record { number = Room; place = 0 })) × (after ≡ before)
+        → (r ≡ refused Room 0) × (after ≡ before)
     settle_room_next h = refused_by card p (no_room_refused card (length before) admitted h)
 
     module _ (room_for : letters_in (told_by card) ≤ length before) where
       -- "5 if a pair card"
-      pub settle_kind_next : (told_by card).kind ≡ pair → (r ≡ Refused (record { number = Kind; place = 0 })) × (after ≡ before)
+      pub settle_kind_next : (told_by card).kind ≡ pair → (r ≡ refused Kind 0) × (after ≡ before)
       settle_kind_next kind = refused_by card p (pair_refused card (length before) admitted room_for kind)
 
       -- "30 Wider with the first entry over 4"
       pub settle_wider : (told_by card).kind ≡ span → (e : ℕ) → FirstWide card e
-          → (r ≡ Refused (record { number = Wider; place = e })) × (after ≡ before)
+          → (r ≡ refused Wider e) × (after ≡ before)
       settle_wider kind e w = refused_by card p (first_wide_refused card (length before) admitted room_for e kind w)
 
 -- 30 comes only there
 pub wider_means : (card : List ℕ) {before after : List ℕ} {e : ℕ}
-    → SettlesCard card before (Refused (record { number = Wider; place = e })) after
+    → SettlesCard card before (refused Wider e) after
     → ((first (reading_order most_entries card) sound ≡ given sound) × (letters_in (told_by card) ≤ length before))
     × (((told_by card).kind ≡ span) × FirstWide card e)
 wider_means card {before} {e = e} p =
-    refused_first_wide card (length before) e (settle_refused_untouched card {r = record { number = Wider; place = e }} p).0
+    refused_first_wide card (length before) e (settle_refused_untouched card p).0
 
 -- ---- lists that hold have the answer of the card that the writer makes of them
 
-pub settle_lists_as_card : (kind l : ℕ) (words ones twos : List ℕ) {before after after' : List ℕ} {r r' : BuildAnswer}
+pub settle_lists_as_card : (kind l : ℕ) (words ones twos : List ℕ) {before after after' : List ℕ} {r r' : Answer BuildAnswer}
     → first (lists_tests most_entries kind l words ones twos) sound ≡ given sound
     → narrow.SettlesInto answer_of (narrow.OfLists most_entries kind l words ones twos (length before)) before r after
     → SettlesCard (card_of (format_for kind l words) (slot_from words ones twos)) before r' after'
@@ -188,7 +187,7 @@ span_tables_settled t h = (
 )
 
 -- what is answered, and written, on a card of one of them
-pub table_settled : (card : List ℕ) {before after : List ℕ} {r : BuildAnswer} → SettlesCard card before r after
+pub table_settled : (card : List ℕ) {before after : List ℕ} {r : Answer BuildAnswer} → SettlesCard card before r after
     → first (build_tests most_entries card (length before)) sound ≡ given sound
     → (t : Table) → In t span_tables → OnCard t card
     → (r ≡ answer_of (given (settled t.verdict 0))) × (after ≡ letters_after (given (settled t.verdict 0)) before)

@@ -28,7 +28,6 @@ use Rattle.span_theory.specs.Settling.{span_entries}
 use Rattle.span_layers.specs.Narrow.{Narrow}
 use Rattle.span_layers.specs.Settling.{settles}
 use Rattle.build_card.specs.declared.BuildAnswer.{BuildAnswer}
-use Rattle.build_card.specs.declared.BuildAnswer.TheVariants.{Refused}
 use Rattle.build_card.specs.Building.{letters_in, build_tests, answer_of, letters_after}
 use Rattle.build_card.proofs.CardLaws.{reader_refuses, order_held, room_held, no_room, has_room}
 use Rattle.build_narrow.specs.Settling.{lists_build_tests, settle_tests, tells, refuses, OfCard, OfLists}
@@ -137,14 +136,14 @@ pub said_refusal : {ts : List Test} {kind l : ℕ} {es : List Slot} {n p : ℕ} 
 said_refusal (refuses e) = e
 
 -- the answer and the output, by what is said
-module _ (card : List ℕ) {before after : List ℕ} {r : BuildAnswer} (p : SettlesCard card before r after) where
+module _ (card : List ℕ) {before after : List ℕ} {r : Answer BuildAnswer} (p : SettlesCard card before r after) where
   pub settled_by : {a : Answer Outcome} → OfCard most_entries card (length before) a → (r ≡ answer_of a) × (after ≡ letters_after a before)
   settled_by says =
       let same = settled_one p.says says in
       (p.answer ∙ ap answer_of same, p.output ∙ ap (λ (a : Answer Outcome). letters_after a before) same)
 
   pub refused_by : {n q : ℕ} → first (card_tests card (length before)) sound ≡ refused n q
-      → (r ≡ Refused (record { number = n; place = q })) × (after ≡ before)
+      → (r ≡ refused n q) × (after ≡ before)
   refused_by e = settled_by (refuses e)
 
 -- ---- the card of lists, and of a table
@@ -167,7 +166,7 @@ module _ (kind l : ℕ) (words ones twos : List ℕ) (before : List ℕ)
       let slots = slot_from words ones twos in
       rw (made_slots f slots, card_told f slots) (other_tests same_tests s)
 
-  pub made_settles : {after : List ℕ} {r : BuildAnswer}
+  pub made_settles : {after : List ℕ} {r : Answer BuildAnswer}
       → narrow.SettlesInto answer_of (OfLists most_entries kind l words ones twos (length before)) before r after
       → SettlesCard made before r after
   made_settles p = record { said = p.said; says = made_says p.says; answer = p.answer; output = p.output }

@@ -3,8 +3,8 @@
 --   NumberMeans card q       == the number q is true of the card
 --   GoesWith q r             == the number q goes with the answer r of build
 -- Assumes nothing.
-use Rattle.std.specs.Prelude.{◌≡◌, List, ℕ, suc, ◌^◌}
-use Rattle.base_answers.specs.Answer.{given, refused, first, sound}
+use Rattle.std.specs.Prelude.{◌≡◌, List, ℕ, suc, ◌^◌, Option, Some, None}
+use Rattle.base_answers.specs.Answer.{Answer, given, refused, first, sound}
 use Rattle.card_entries.specs.Fault.{pair}
 use Rattle.card_entries.specs.Bounds.{most_entries}
 use Rattle.card_layout.specs.Layout.{told_by}
@@ -12,8 +12,6 @@ use Rattle.card_reader.specs.Reading.{reading_order}
 use Rattle.build_sequence.specs.Many.{Many}
 use Rattle.build_card.specs.declared.BuildAnswer.{BuildAnswer}
 use Rattle.build_card.specs.declared.BuildAnswer.TheVariants as build
-use Rattle.build_count.specs.declared.Number.{Number}
-use Rattle.build_count.specs.declared.Number.TheVariants as number
 use Rattle.build_count.specs.Counting.{count_tests}
 use Rattle.proved_demands.specs.Demanded.{Fits}
 
@@ -23,16 +21,16 @@ pub record OnPairCard (card : List ℕ) : Type 0 where
 
 -- "For every pair card also report how many builds it has: the number is 0 or a power of two, and the exponent is given, or that there is
 -- none. […] Refusals: 5 on a span card."
-abbrev pub NumberMeans : List ℕ → Number → Type 0
-NumberMeans card (number.Power k) = OnPairCard card × Many (Fits card) (2 ^ k)
-NumberMeans card number.None = OnPairCard card × ((s : List ℕ) → Fits card s → ⊥)
-NumberMeans card (number.Refused r) =
-    first (count_tests (told_by card).kind (reading_order most_entries card)) sound ≡ refused r.number r.place
+abbrev pub NumberMeans : List ℕ → Answer (Option ℕ) → Type 0
+NumberMeans card (given (Some k)) = OnPairCard card × Many (Fits card) (2 ^ k)
+NumberMeans card (given None) = OnPairCard card × ((s : List ℕ) → Fits card s → ⊥)
+NumberMeans card (refused n p) =
+    first (count_tests (told_by card).kind (reading_order most_entries card)) sound ≡ refused n p
 
 -- sole exactly at 0, several exactly above, none where there is none
-abbrev pub GoesWith : Number → BuildAnswer → Type 0
-GoesWith q (build.Sole n j) = q ≡ number.Power 0
-GoesWith q (build.Several n j) = (k : ℕ) × (q ≡ number.Power (suc k))
-GoesWith q (build.None j) = q ≡ number.None
-GoesWith q (build.Unsettled j) = ⊥
-GoesWith q (build.Refused r) = ⊥
+abbrev pub GoesWith : Answer (Option ℕ) → Answer BuildAnswer → Type 0
+GoesWith q (given (build.Sole n j)) = q ≡ given (Some 0)
+GoesWith q (given (build.Several n j)) = (k : ℕ) × (q ≡ given (Some (suc k)))
+GoesWith q (given (build.None j)) = q ≡ given None
+GoesWith q (given (build.Unsettled j)) = ⊥
+GoesWith q (refused n p) = ⊥

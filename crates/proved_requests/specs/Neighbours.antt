@@ -12,7 +12,7 @@
 --   span_twos words ones twos == the places two of its entries, from the lists of the pair card; words and places one stay
 -- Assumes nothing.
 use Rattle.std.specs.Prelude.{◌≡◌, ◌⊎◌, cond, List, map, ℕ, ◌+◌, eqb}
-use Rattle.base_answers.specs.Answer.{given}
+use Rattle.base_answers.specs.Answer.{Answer, given}
 use Rattle.card_entries.specs.declared.Format.{Format}
 use Rattle.card_entries.specs.declared.Slot.{Slot}
 use Rattle.card_entries.specs.Fault.{pair, span, no_place}
@@ -48,7 +48,7 @@ pub record Spanned (card card' : List ℕ) : Type 0 where
 
 -- "the same verdict and sequence": one verdict, with placements 0 in the first answer and any in the second (a pair card's and its span
 -- card's; for request 11, settling's and build's)
-pub record SameSaid (before : List ℕ) (r : BuildAnswer) (after before' : List ℕ) (r' : BuildAnswer) (after' : List ℕ) : Type 0 where
+pub record SameSaid (before : List ℕ) (r : Answer BuildAnswer) (after before' : List ℕ) (r' : Answer BuildAnswer) (after' : List ℕ) : Type 0 where
   pub verdict : Verdict
   pub placements : ℕ
   pub answer : r ≡ answer_of (given (settled verdict 0))

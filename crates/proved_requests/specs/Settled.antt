@@ -6,7 +6,7 @@
 --   FirstWide card e         == the entry e of the card has a span that is not narrow, and each entry before it has one that is
 -- Assumes nothing.
 use Rattle.std.specs.Prelude.{◌≡◌, true, false, List, ℕ, ◌≤◌, ◌<◌, length}
-use Rattle.base_answers.specs.Answer.{given, first, sound}
+use Rattle.base_answers.specs.Answer.{Answer, given, first, sound}
 use Rattle.card_entries.specs.Fault.{span}
 use Rattle.card_entries.specs.Bounds.{most_entries}
 use Rattle.card_layout.specs.Layout.{told_by, slot_of, slots_on}
@@ -16,7 +16,7 @@ use Rattle.build_card.specs.declared.BuildAnswer.{BuildAnswer}
 use Rattle.build_card.specs.Building.{letters_in, answer_of}
 use Rattle.build_narrow.specs.Settling.{OfCard, SettlesInto}
 
-abbrev pub SettlesCard : List ℕ → List ℕ → BuildAnswer → List ℕ → Type 0
+abbrev pub SettlesCard : List ℕ → List ℕ → Answer BuildAnswer → List ℕ → Type 0
 SettlesCard card before r after = SettlesInto answer_of (OfCard most_entries card (length before)) before r after
 
 -- "Labs with good stages give spans at most 4 wide […] Add a separate call for such cards"

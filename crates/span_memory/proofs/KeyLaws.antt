@@ -6,11 +6,10 @@ use mathlib.Core.List.{List, [], ◌∷◌, foldl}
 use Prim.Native.Nat.{ℕ, ◌+◌, ◌*◌, ◌/◌, ◌%◌, ◌^◌, ◌≤◌, ◌<◌}
 use native.Mathlib.Omega.{arith}
 use native.Mathlib.Nat.{pow-suc, pow-zero, mul_comm, mul_assoc, mul-add-div_right, div-eq_of_lt, mul-add-mod_self_right, mod-eq_of_lt}
-use native.Mathlib.Numerals.{add-one}
 use lib.Pow.{pow_mono}
 use lib.Dec.{eqb}
 use lib.ListN.{length, get_or, drop}
-use Rattle.base_lists.proofs.Fold.{fold_turn, fold_end}
+use Rattle.base_lists.proofs.Fold.{fold_end}
 use Rattle.base_lists.specs.Members.{In, first, later}
 use Rattle.base_lists.proofs.ListLaws.{not_in_nil, in_cons}
 use Rattle.span_memory.specs.Memory.{few_marks, mark_values, mark_of, with_mark, bits_of, Bits, KeyOf}
@@ -64,13 +63,6 @@ module _ (marks js : List ℕ) where
   module _ {k bits : ℕ} (s : Telling marks js k bits) (short : length js ≤ few_marks) where
     pub telling_few : bits < mark_values
     telling_few = few_bits k bits (omega (arith, s.in_list)) s.few
-
-    pub telling_turn : {bit : ℕ} → k < length js → bit ≡ mark_of marks (get_or js k 0) → Telling marks js (k + 1) (2 * bits + bit)
-    telling_turn {bit} h is = rw is record {
-      in_list = omega arith;
-      few = rw (add-one k) (omega (arith, s.few, pow-suc 2 k, mark_small marks (get_or js k 0)));
-      rest = fold_turn (with_mark marks) bits js k h ∙ s.rest;
-    }
 
     pub telling_all : length js ≤ k → Bits marks js bits
     telling_all h = record { all = sym (fold_end (with_mark marks) bits js k h) ∙ s.rest; few = telling_few }

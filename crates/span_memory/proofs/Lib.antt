@@ -1,3 +1,3 @@
--- Laws of the memory: `KeyLaws` that equal keys are equal states, `CellLaws` what a cell tells and what is stored in one.
+-- Laws of the memory: `KeyLaws` that equal keys are equal states, `CellLaws` what a cell tells.
 pub mod KeyLaws
 pub mod CellLaws

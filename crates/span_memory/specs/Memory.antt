@@ -28,10 +28,6 @@ tail_values = 4294967296
 abbrev pub most_places : ℕ
 most_places = 65535
 
--- what no size is, as the largest number of eight bytes
-abbrev pub unknown : ℕ
-unknown = 18446744073709551615
-
 -- the memory has so many buckets,
 abbrev pub buckets : ℕ
 buckets = 251
@@ -66,20 +62,12 @@ pub record KeyOf (marks js : List ℕ) (i want key : ℕ) : Type 0 where
   pub low : want < tail_values
   pub made : key ≡ (i * mark_values + bits_of marks js) * tail_values + want + 1
 
--- what `key_of` promises: the key, or 0
-pub record KeyOrNone (marks js : List ℕ) (i want r : ℕ) : Type 0 where
-  pub is_key : 0 < r → KeyOf marks js i want r
-
 pub record Told (known : List ℕ) (key size : ℕ) : Type 0 where
   pub some : 0 < key
   pub cell : ℕ
   pub inside : cell < cells
   pub key_is : get_or known (2 * cell) 0 ≡ key
   pub size_is : get_or known (2 * cell + 1) 0 ≡ size
-
--- what `recall` promises: a size that a cell tells, or `unknown`
-pub record Recalled (known : List ℕ) (key r : ℕ) : Type 0 where
-  pub told : r < unknown → Told known key r
 
 -- what `remember` promises: each cell is as it was, or has the key and the placements, where no build was completed
 pub record Stored (known known' : List ℕ) (key : ℕ) (before after : Tally) : Type 0 where

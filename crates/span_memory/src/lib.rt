@@ -5,13 +5,11 @@
 
 pub mod tally;
 
-ghost use Rattle.std.specs.Prelude.{◌≡◌, ◌≤◌, ◌<◌, length, replicate};
-ghost use Rattle.span_memory.specs.Memory.{few_marks, most_places, buckets, cells, memory_length, mark_of, Below, Bits, KeyOrNone, Recalled, Stored};
+ghost use Rattle.std.specs.Prelude.{◌≡◌, ◌≤◌, ◌<◌, IfSome, length, replicate};
+ghost use Rattle.span_memory.specs.Memory.{few_marks, most_places, buckets, cells, memory_length, mark_of, Below, Bits, KeyOf, Told, Stored};
 
 use tally::Tally;
 
-// What no size is.
-pub const UNKNOWN: u64 = 18446744073709551615;
 // The buckets of the memory, of two cells each: a prime, so that keys spread.
 const BUCKETS: usize = 251;
 // A key and a size for each cell.
@@ -37,11 +35,7 @@ fn mark_of(marks: &[u8], e: u16) -> u64
     requires { e < length marks.now }
     ensures { result ≡ mark_of marks.now e }
 {
-    let j = e as usize;
-    if marks[j] == 0 {
-        return 0;
-    }
-    1
+    u64::from(marks[usize::from(e)] != 0)
 }
 
 // The marks of the entries of the list, as binary digits.
@@ -51,29 +45,24 @@ pub fn bits_of(list: &[u16], marks: &[u8]) -> u64
     ensures { Bits marks.now list.now result }
 {
     let mut bits = 0;
-    let mut k = 0;
-    while k < list.len() {
-        bits = 2 * bits + mark_of(marks, list[k]);
-        k += 1;
+    for e in list {
+        bits = 2 * bits + mark_of(marks, *e);
     }
     bits
 }
 
-// The key of the state at the place i, whose list is lent, after a word whose last letters are `want`; 0 where `placed` is too few
+// The key of the state at the place i, whose list is lent, after a word whose last letters are `want`; none where `placed` is too few
 // placements for one, or the list too long.
-pub fn key_of(list: &[u16], marks: &[u8], i: usize, want: u32, placed: u32) -> u64
+pub fn key_of(list: &[u16], marks: &[u8], i: usize, want: u32, placed: u32) -> Option<u64>
     requires below { Below list.now (length marks.now) }
     requires i_lt_most_places { i < most_places }
-    ensures { KeyOrNone marks.now list.now i want result }
+    ensures { IfSome result (KeyOf marks.now list.now i want) }
 {
-    if (placed as usize) < i + PATIENCE {
-        return 0;
-    }
-    if list.len() > FEW_MARKS {
-        return 0;
+    if (placed as usize) < i + PATIENCE || list.len() > FEW_MARKS {
+        return None;
     }
     let bits = bits_of(list, marks);
-    (i as u64 * MARK_VALUES + bits) * TAIL_VALUES + want as u64 + 1
+    Some((i as u64 * MARK_VALUES + bits) * TAIL_VALUES + u64::from(want) + 1)
 }
 
 // The bucket of a key.
@@ -83,22 +72,22 @@ fn bucket_of(key: u64) -> usize
     (key % BUCKETS as u64) as usize
 }
 
-// The placements of the state with that key; UNKNOWN where the memory does not say.
-pub fn recall(known: &[u64; LENGTH], key: u64) -> u64
-    ensures { Recalled known.now key result }
+// The placements of the state with that key, if the memory says. No state has the key 0, which an empty cell holds.
+pub fn recall(known: &[u64; LENGTH], key: u64) -> Option<u64>
+    ensures { IfSome result (Told known.now key) }
 {
     if key == 0 {
-        return UNKNOWN;
+        return None;
     }
     let one = 4 * bucket_of(key);
     if known[one] == key {
-        return known[one + 1];
+        return Some(known[one + 1]);
     }
     let two = one + 2;
     if known[two] == key {
-        return known[two + 1];
+        return Some(known[two + 1]);
     }
-    UNKNOWN
+    None
 }
 
 // The cell for a state of that size: the first of its bucket, unless a larger one is there. So the largest of a bucket is not lost to a smaller
@@ -121,7 +110,7 @@ pub fn remember(known: &mut [u64; LENGTH], key: u64, before: Tally, after: Tally
     if after.builds != before.builds {
         return;
     }
-    let size = (after.placed - before.placed) as u64;
+    let size = u64::from(after.placed - before.placed);
     let at = 2 * cell_for(known, key, size);
     known[at] = key;
     known[at + 1] = size;

@@ -1,50 +1,42 @@
 // How far a walk has come.
-ghost use Rattle.std.specs.Prelude.{◌≤◌, ◌<◌};
-ghost use Rattle.span_memory.specs.Tally.{most_budget, PlacedOne, PlacedMore};
+ghost use Rattle.std.specs.Prelude.{◌≡◌, ◌≤◌, ◌<◌, IfSome};
+ghost use Rattle.span_memory.specs.Tally.{most_budget, tally_of, PlacedOne, PlacedMore};
 
-// The placements made, and the builds that are complete, or 3 where the budget is spent.
+// The placements made, and the builds that are complete.
 #[derive(Clone, Copy)]
 pub struct Tally {
     pub placed: u32,
     pub builds: u32,
 }
 
-// In place of the builds where the budget is spent.
-pub const SPENT: u32 = 3;
-
-// A placement at the place i of m: it is counted, and at the last place it completes a build.
-pub fn placed_at(i: usize, m: usize, t: Tally) -> Tally
-    requires { (i < m) × (t.placed < most_budget) × (t.builds < 2) }
-    ensures { PlacedOne i m t result }
-{
-    let placed = t.placed + 1;
-    if i + 1 == m {
-        Tally {
-            placed,
-            builds: t.builds + 1,
-        }
-    } else {
-        Tally {
-            placed,
-            builds: t.builds,
-        }
-    }
-}
-
-// So many placements more, or the budget is spent.
-pub fn skipped(size: u64, budget: u32, t: Tally) -> Tally
-    requires { t.placed ≤ budget }
-    ensures { PlacedMore size budget t result }
-{
-    let rest = budget - t.placed;
-    if size > rest as u64 {
-        return Tally {
-            placed: budget,
-            builds: SPENT,
+impl Tally {
+    // A placement at the place i of m: it is counted, and at the last place it completes a build.
+    pub fn placed_at(self, i: usize, m: usize) -> Tally
+        requires { (i < m) × (self.placed < most_budget) × (self.builds < 2) }
+        ensures { PlacedOne i m self result }
+    {
+        let placed = self.placed + 1;
+        let builds = if i + 1 == m {
+            self.builds + 1
+        } else {
+            self.builds
         };
+        Tally { placed, builds }
     }
-    Tally {
-        placed: t.placed + size as u32,
-        builds: t.builds,
+
+    // So many placements more, if the budget allows them.
+    pub fn skipped(self, size: u64, budget: u32) -> Option<Tally>
+        requires { self.placed ≤ budget }
+        ensures placed_more { PlacedMore size budget self (tally_of budget result) }
+        ensures same_builds { IfSome result (λ t. t.builds ≡ self.builds) }
+    {
+        let rest = budget - self.placed;
+        if size > u64::from(rest) {
+            return None;
+        }
+        Some(Tally {
+            placed: self.placed + size as u32,
+            builds: self.builds,
+        })
     }
 }

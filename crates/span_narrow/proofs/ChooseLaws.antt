@@ -1,24 +1,30 @@
 -- Laws of choosing: the loop looks at the list from its end, and takes the digits of the cell apart from theirs. Assumes nothing.
 use mathlib.Core.Path.{◌≡◌, refl, sym, ap, ◌∙◌}
 use mathlib.Core.Bool.{Bool, true, false, cond, ◌&&◌}
+use Rattle.std.specs.Prelude.{Option, None, Some}
+use Rattle.std.specs.Option.{is_some as option_some}
 use mathlib.Core.List.{List, ◌∷◌}
 use Prim.Native.Nat.{ℕ, suc, ◌-◌, ◌/◌, ◌%◌, ◌^◌, ◌≤◌, ◌<◌}
 use native.Mathlib.Omega.{arith}
 use native.Mathlib.Nat.{pow-suc, pow-zero, div-one, div-div-eq-div-mul}
-use lib.Dec.{eqb, ltb}
+use lib.Dec.{eqb}
 use lib.ListN.{length, get_or, drop, length-drop}
 use lib.Seq.{drop-cons, drop-length}
-use borrow.Author.Tests.{lt-ltb, le-ltb}
 use Rattle.base_lists.proofs.TestLaws.{both}
 use Rattle.span_layers.specs.Completed.{is_some}
 use Rattle.span_steps.specs.Steps.{agrees}
-use Rattle.span_narrow.specs.Digits.{picked, FirstOf, nobody, somebody}
+use Rattle.span_narrow.specs.declared.digits.Pick.{Pick}
+use Rattle.span_narrow.specs.Digits.{picked, FirstIs, FirstOf, nobody, somebody}
 use Rattle.span_narrow.specs.States.{agreeing}
 
 -- whether somebody is chosen
-pub chosen_some : {list ks : List ℕ} {at : ℕ} {more : Bool} → FirstOf list ks at more → ltb at (length list) ≡ is_some ks
-chosen_some {list} {at} (nobody e f g) = rw (f, le-ltb at (length list) (omega arith))
-chosen_some {list} {at} (somebody h f m) = rw (f, lt-ltb at (length list) h)
+pub chosen_some : {ks : List ℕ} {r : Option Pick} → FirstOf ks r → option_some r ≡ is_some ks
+chosen_some (nobody e f) = rw (e, f)
+chosen_some (somebody e h) = rw (e, h.split)
+
+pub chosen_first : {ks : List ℕ} {r : Option Pick} {p : Pick} → FirstOf ks r → r ≡ Some p → FirstIs ks p
+chosen_first {p = p} (nobody e f) q = let none : None ≡ Some p = sym e ∙ q in cc
+chosen_first {p = p} (somebody {p = own} e h) q = let same : own ≡ p = cc in rw (← same) h
 
 module _ (list words : List ℕ) (c i want : ℕ) where
   -- the entry e is picked by the last digit of d, and its word agrees
@@ -29,20 +35,20 @@ module _ (list words : List ℕ) (c i want : ℕ) where
   abbrev chosen : ℕ → List ℕ
   chosen k = agreeing words i want (picked c (drop k list))
 
-  pub record LookedFrom (k d at : ℕ) (more : Bool) : Type 0 where
+  pub record LookedFrom (k d : ℕ) (r : Option Pick) : Type 0 where
     pub within : k ≤ length list
     pub rest : d ≡ c / 2 ^ (length list - k)
-    pub found : FirstOf list (chosen k) at more
+    pub found : FirstOf (chosen k) r
 
-  pub looked_none : LookedFrom (length list) c (length list) false
+  pub looked_none : LookedFrom (length list) c None
   unfolding picked
   looked_none = record {
     within = omega arith;
     rest = let none : length list - length list ≡ 0 = omega arith in sym (ap (λ n. c / 2 ^ n) none ∙ ap (λ n. c / n) (pow-zero 2) ∙ div-one c);
-    found = nobody refl (ap (λ l. agreeing words i want (picked c l)) (drop-length list)) refl;
+    found = nobody refl (ap (λ l. agreeing words i want (picked c l)) (drop-length list));
   }
 
-  module _ {k d at : ℕ} {more : Bool} (s : LookedFrom k d at more) (some : 0 < k) where
+  module _ {k d : ℕ} {r : Option Pick} (s : LookedFrom k d r) (some : 0 < k) where
     -- the digits before
     before : d / 2 ≡ c / 2 ^ (length list - (k - 1))
     before =
@@ -64,21 +70,26 @@ module _ (list words : List ℕ) (c i want : ℕ) where
     unfolding picked
     turn t e = rw one_more (rw (its_digit, e))
 
-    pub looked_skip : is_picked d (get_or list (k - 1) 0) ≡ false → LookedFrom (k - 1) (d / 2) at more
+    pub looked_skip : is_picked d (get_or list (k - 1) 0) ≡ false → LookedFrom (k - 1) (d / 2) r
     looked_skip h = record { within = omega (arith, s.within); rest = before; found = rw (same (eqb (d % 2) 1) refl h) s.found }
       where
         same : (t : Bool) → eqb (d % 2) 1 ≡ t → (t && agrees i want (get_or words (get_or list (k - 1) 0) 0)) ≡ false → chosen (k - 1) ≡ chosen k
         same true e g = turn true e ∙ rw g
         same false e g = turn false e
 
-    pub looked_more : is_picked d (get_or list (k - 1) 0) ≡ true → LookedFrom (k - 1) (d / 2) (k - 1) (ltb at (length list))
+    pub looked_more : is_picked d (get_or list (k - 1) 0) ≡ true
+        → LookedFrom (k - 1) (d / 2) (Some record { e = get_or list (k - 1) 0; more = option_some r })
     looked_more h =
         let b = both (eqb (d % 2) 1) (agrees i want (get_or words (get_or list (k - 1) 0) 0)) h in
         record {
           within = omega (arith, s.within);
           rest = before;
-          found = somebody {js = chosen k} (omega (arith, s.within)) (turn true b.0 ∙ rw b.1) (chosen_some s.found);
+          found = somebody refl record {
+            rest = chosen k;
+            split = turn true b.0 ∙ rw b.1;
+            more_is = chosen_some s.found;
+          };
         }
 
-  pub looked_all : {k d at : ℕ} {more : Bool} → LookedFrom k d at more → k ≤ 0 → FirstOf list (agreeing words i want (picked c list)) at more
+  pub looked_all : {k d : ℕ} {r : Option Pick} → LookedFrom k d r → k ≤ 0 → FirstOf (agreeing words i want (picked c list)) r
   looked_all {k} s h = let none : k ≡ 0 = omega arith in rw none at s.found

@@ -15,13 +15,14 @@ use Rattle.build_method.proofs.RightLaws.{right_one, words_one}
 use Rattle.span_narrow.proofs.settle.Kinds as settle_kinds
 use Rattle.span_narrow.proofs.settle.Reads as settle_reads
 
-pub settle_one : (κs : Lfts 4) (a : Dens κs settle_kinds.ps) (r r' : (res_t settle_kinds.r κs).Denot)
-    (e e' : AtExit (ended_of 4 settle_kinds.ps settle_kinds.r) κs)
+pub settle_one : (κs : Lfts 3) (a : Dens κs settle_kinds.ps) (r r' : (res_t settle_kinds.r κs).Denot)
+    (e e' : AtExit (ended_of 3 settle_kinds.ps settle_kinds.r) κs)
     → settle_reads.Pre κs a
     → settle_reads.Post κs a r e
     → settle_reads.Post κs a r' e'
     → (r ≡ r')
-    × (GivesBuild r → take (length a.1.0.now) e.1.1.1.1.0.now ≡ take (length a.1.0.now) e'.1.1.1.1.0.now)
+    × (GivesBuild r → take (length a.1.0.now.words.now) e.1.1.0.now ≡ take (length a.1.0.now.words.now) e'.1.1.0.now)
 settle_one κs a r r' e e' pre p q =
-    let es = entries_in a.1.0.now a.1.1.0.now a.1.1.1.0.now in
+    let lists = a.1.0.now in
+    let es = entries_in lists.words.now lists.ones.now lists.twos.now in
     (right_one (λ o o'. means_one) p q, words_one (λ o o'. means_one) p q (entries_fit a.0 span es (hold_fits (hold_of_kind pre.0.hold refl))))

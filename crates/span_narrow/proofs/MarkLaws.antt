@@ -1,5 +1,5 @@
 -- Laws of marking the entries of a list, one after the other. Assumes nothing.
-use mathlib.Core.Path.{◌≡◌, refl, ◌∙◌}
+use mathlib.Core.Path.{◌≡◌, ◌∙◌}
 use mathlib.Core.Logic.{◌⊎◌, inl, inr, ⊎_elim}
 use mathlib.Core.List.{List}
 use Prim.Native.Nat.{ℕ, ◌+◌, ◌≤◌, ◌<◌}
@@ -19,9 +19,6 @@ module _ (list marks₀ : List ℕ) (v : ℕ) where
     pub all : length marks ≡ length marks₀
     pub each : (j : ℕ) → In j list → In j (drop k list) ⊎ (get_or marks j 0 ≡ v)
     pub others : (j : ℕ) → (In j list → ⊥) → get_or marks j 0 ≡ get_or marks₀ j 0
-
-  pub marking_none : Marking 0 marks₀
-  marking_none = record { within = omega arith; all = refl; each = λ j m. inl m; others = λ j n. refl }
 
   module _ {k : ℕ} {marks : List ℕ} (s : Marking k marks) where
     pub marking_turn : k < length list → get_or list k 0 < length marks → Marking (k + 1) (set marks (get_or list k 0) v)

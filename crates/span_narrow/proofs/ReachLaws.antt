@@ -4,29 +4,21 @@ use mathlib.Core.Path.{◌≡◌, refl, sym, ◌∙◌}
 use mathlib.Core.Logic.{⊎_elim}
 use mathlib.Core.Bool.{true, true≢false}
 use mathlib.Core.List.{List}
-use Prim.Native.Nat.{ℕ, ◌+◌, ◌-◌, ◌*◌, ◌^◌, ◌≤◌, ◌<◌}
+use Prim.Native.Nat.{ℕ, ◌+◌, ◌*◌, ◌^◌, ◌≤◌, ◌<◌}
 use native.Mathlib.Omega.{arith}
-use lib.ListN.{length, get_or, set, length-set}
-use lib.Seq.{get_or-set_same}
+use lib.ListN.{length, get_or, set}
 use borrow.Author.Tests.{eq-eqb}
-use Rattle.card_entries.proofs.HoldLaws.{some_entry}
 use Rattle.base_lists.specs.Members.{In}
 use Rattle.base_lists.proofs.FillingLaws.{same_or_not}
 use Rattle.span_memory.specs.Memory.{bits_of}
-use Rattle.span_narrow.specs.Digits.{Filled}
 use Rattle.span_narrow.specs.Plan.{Plan, list_on, Planned}
 use Rattle.span_narrow.specs.States.{cells_over, Sides, cell_of, tried_at, is_kept}
-use Rattle.span_narrow.specs.Keeping.{KeptAfter, KeptBelow, Opening}
+use Rattle.span_narrow.specs.Keeping.{KeptAfter, KeptBelow}
 use Rattle.span_narrow.specs.Sweeping.{Half}
 use Rattle.span_narrow.proofs.PlaceLaws.{states_one}
 use Rattle.span_narrow.proofs.SweepLaws.{cell_low, sets_few}
 
 -- ---- all states below a cell
-
--- the digits of a state at the place, as its contract has them
-pub low_sets : (starts : List ℕ) (i : ℕ) {lo hi b n : ℕ} → lo ≡ get_or starts i 0 → hi ≡ get_or starts (i + 1) 0 → n ≡ 2 ^ (hi - lo) → b < n
-    → b < 2 ^ (get_or starts (i + 1) 0 - get_or starts i 0)
-low_sets starts i lo_is hi-is n-is h = rw (← lo_is, ← hi-is, ← n-is) h
 
 module _ {plan : Plan} (planned : Planned plan) where
   module _ {table : List ℕ} (i b : ℕ) (u : KeptBelow plan table (cells_over * i + b)) where
@@ -72,24 +64,11 @@ module _ {plan : Plan} (planned : Planned plan) where
             same_bits : j ≡ i → bits_of marks' (list_on plan j) ≡ b
             same_bits p = omega arith
 
-  -- a place begins
-  pub opening : {marks table : List ℕ} {i : ℕ} → i + 1 < length plan.words → Sides plan marks i (i + 1)
-      → KeptBelow plan table (cells_over * i)
-      → Opening plan marks table i 0
-  opening inside sides u = record {
-    planned = planned;
-    inside = inside;
-    sides = sides;
-    upto = record { room = u.room; begun = u.begun; closed = λ marks j e h s kept m g. u.closed marks j e h s kept m (omega arith) };
-  }
-
   -- the place is done
-  pub below_place : {table : List ℕ} (i : ℕ) {lo hi b : ℕ} → KeptBelow plan table (cells_over * i + b) → i < length plan.words
-      → lo ≡ get_or plan.starts i 0
-      → hi ≡ get_or plan.starts (i + 1) 0
-      → 2 ^ (hi - lo) ≤ b
+  pub below_place : {table : List ℕ} (i : ℕ) {b : ℕ} → KeptBelow plan table (cells_over * i + b) → i < length plan.words
+      → 2 ^ length (list_on plan i) ≤ b
       → KeptBelow plan table (cells_over * (i + 1))
-  below_place i {lo} {hi} {b} u inside lo_is hi-is all = record {
+  below_place i {b} u inside all = record {
     room = u.room;
     begun = u.begun;
     closed = λ marks j e h sides kept m g. u.closed marks j e h sides kept m (low marks j (omega arith) g);
@@ -98,8 +77,8 @@ module _ {plan : Plan} (planned : Planned plan) where
       low : (marks : List ℕ) (j : ℕ) → j < length plan.words → cell_of (list_on plan j) marks j < cells_over * (i + 1)
           → cell_of (list_on plan j) marks j < cells_over * i + b
       low marks j h g = ⊎_elim
-          (λ q. let few : bits_of marks (list_on plan i) < 2 ^ (hi - lo) =
-          (sets_few planned {b = 2 ^ (hi - lo)} inside (rw (lo_is, hi-is) refl)).1 marks in
+          (λ q. let few : bits_of marks (list_on plan i) < 2 ^ length (list_on plan i) =
+          (sets_few planned {b = 2 ^ length (list_on plan i)} inside refl).1 marks in
           rw q (omega arith))
           (λ n. omega (arith, cell_low planned marks j h)) (same_or_not j i)
 
@@ -116,13 +95,4 @@ module _ {plan : Plan} (planned : Planned plan) where
     same = λ k g. refl;
     exact = record { each = λ marks j from inside sides kept. absurd (omega arith) };
     here = λ marks inside sides kept b. absurd (omega arith);
-  }
-
-  -- at first nothing was seen
-  pub below_none : {table table' : List ℕ} → cells_over * length plan.words ≤ length table → Filled table 0 table'
-      → KeptBelow plan (set table' 0 1) (cells_over * 0)
-  below_none {table} {table'} room f = record {
-    room = omega (arith, f.all, length-set table' 0 1);
-    begun = λ e. omega (arith, get_or-set_same table' 0 1 0 (omega (arith, f.all, some_entry planned.card)));
-    closed = λ marks j e h sides kept m g. absurd (omega arith);
   }

@@ -4,84 +4,54 @@ use mathlib.Core.Path.{◌≡◌, refl, sym, ap, ap₂, ◌∙◌}
 use mathlib.Core.Bool.{Bool, true, false, ◌||◌}
 use mathlib.Core.List.{List, [], ◌∷◌, ◌++◌, map, flat_map, append_assoc, append-nil}
 use mathlib.Core.Option.{Option, none, some}
+use Rattle.std.specs.Prelude.{Option as Answer, Some, IsSome}
 use Prim.Native.Nat.{ℕ, ◌+◌, ◌-◌, ◌%◌, ◌^◌, ◌≤◌, ◌<◌}
 use native.Mathlib.Omega.{arith}
 use native.Mathlib.Numerals.{add-one}
-use lib.ListN.{length, get_or, set, take, drop, length-set}
-use lib.Seq.{take-suc-set, take_all, get_or-take, get_or-drop}
-use borrow.Author.Tests.{ltb-true}
+use lib.ListN.{length, get_or, set, take, length-set}
+use lib.Seq.{take-suc-set, take_all}
 use Rattle.base_lists.specs.Members.{In, first, later}
 use Rattle.base_lists.proofs.ListLaws.{in_keep}
-use Rattle.base_lists.proofs.FillingLaws.{get_d_in}
 use Rattle.span_layers.specs.Completed.{paths, is_some}
 use Rattle.span_layers.proofs.Paths.{paths_end}
 use Rattle.span_steps.specs.Steps.{agrees, Wants, at_first, later_on}
-use Rattle.span_steps.proofs.PlaceLaws.{list_lent, list_below}
 use Rattle.span_narrow.specs.declared.chances.Spot.{Spot}
-use Rattle.span_narrow.specs.declared.reading.PlacedFirst.{PlacedFirst}
-use Rattle.span_narrow.specs.Digits.{picked, FirstOf, nobody, somebody}
-use Rattle.span_narrow.specs.Plan.{Plan, list_on, left_on}
-use Rattle.span_narrow.specs.States.{Sides, cell_of, paths_after, paths_with, agreeing, Chances, is_kept}
+use Rattle.span_narrow.specs.declared.digits.Pick.{Pick}
+use Rattle.span_narrow.specs.Digits.{FirstOf}
+use Rattle.span_narrow.specs.Plan.{Plan, left_on}
+use Rattle.span_narrow.specs.States.{Sides, paths_after, paths_with, is_kept}
+use Rattle.span_narrow.specs.Stepping.{chosen_at}
 use Rattle.span_narrow.specs.ReadOff.{Taking, Took, Readable, WasRead}
+use Rattle.span_narrow.proofs.ChooseLaws.{chosen_first}
 use Rattle.span_narrow.proofs.PlaceLaws.{tried_next}
-use Rattle.span_narrow.proofs.StateLaws.{list_long, some_map, some_flat, chance_leads, lent_from, cell_completes}
+use Rattle.span_narrow.proofs.StateLaws.{some_map, some_flat, chance_leads, cell_completes}
 use Rattle.span_narrow.proofs.SideLaws.{sides_first, sides_all}
 use Rattle.span_narrow.proofs.SweepLaws.{half_told, begun_kept}
 
 -- ---- the first that leads on
 
--- of the list that is lent, those whom the cell picks and whose word agrees
-abbrev picked_from : Plan → ℕ → ℕ → Spot → ℕ → List ℕ
-picked_from plan lo hi s c = agreeing plan.words s.i s.want (picked c (lent_from plan lo hi))
-
-module _ {plan : Plan} {marks table : List ℕ} {s : Spot} {lo hi : ℕ} (t : Taking plan marks table s)
-    (lo_is : lo ≡ get_or plan.starts s.i 0) (hi-is : hi ≡ get_or plan.starts (s.i + 1) 0) where
-  lent : lent_from plan lo hi ≡ list_on plan s.i
-  lent = list_lent t.planned.prepared t.inside lo_is hi-is
-
-  module _ {cell at : ℕ} {more : Bool} (is : cell ≡ cell_of (lent_from plan lo hi) marks s.i)
-      (chosen : FirstOf (lent_from plan lo hi) (picked_from plan lo hi s (get_or table cell 0)) at more) where
+module _ {plan : Plan} {marks table : List ℕ} {s : Spot} (t : Taking plan marks table s) where
+  module _ {r : Answer Pick} (chosen : FirstOf (chosen_at plan marks table s) r) where
     -- somebody is chosen
-    pub taken_there : at < hi - lo
-    taken_there =
-        ltb-true at (hi - lo)
-        ((cell_completes table t.planned t.inside lo_is hi-is t.told is chosen).each t.word_before t.wants ∙ t.some)
+    pub taken_some : IsSome r
+    taken_some = (cell_completes table t.told chosen).each t.word_before t.wants ∙ t.some
 
-    taken_entry : get_or (lent_from plan lo hi) at 0 ≡ get_or plan.slots (lo + at) 0
-    taken_entry = get_or-take (hi - lo) (drop lo plan.slots) at 0 taken_there ∙ get_or-drop lo plan.slots at 0
-
-    -- it is one of the card's
-    pub taken_low : get_or plan.slots (lo + at) 0 < length plan.words
-    taken_low =
-        rw (← taken_entry)
-        ((list_below t.planned.prepared t.inside lo_is hi-is {n = length plan.words} refl).each _
-        (get_d_in (lent_from plan lo hi) at (omega (arith, taken_there, list_long t.planned t.inside lo_is hi-is))))
-
-    chances : Chances plan marks s.i (get_or table cell 0)
-    chances = let there : cell ≡ cell_of (list_on plan s.i) marks s.i = is ∙ ap (λ js. cell_of js marks s.i) lent in rw there t.told
-
-    pub taken_took : {e : ℕ} → e ≡ get_or plan.slots (lo + at) 0 → Took plan marks (set marks e 1) s record { e = e; more = more }
+    pub taken_took : {p : Pick} → r ≡ Some p → Took plan marks (set marks p.e 1) s p
     unfolding flat_map
-    taken_took {e} q = go chosen
-      where
-        go : FirstOf (lent_from plan lo hi) (picked_from plan lo hi s (get_or table cell 0)) at more
-            → Took plan marks (set marks e 1) s record { e = e; more = more }
-        go (nobody n f g) = absurd (omega (arith, taken_there, list_long t.planned t.inside lo_is hi-is))
-        go (somebody {js} h f m) =
-            let own : picked_from plan lo hi s (get_or table cell 0) ≡ e ∷ js = f ∙ ap (λ x. x ∷ js) (taken_entry ∙ sym q) in
-            let picks = picked (get_or table cell 0) (list_on plan s.i) in
-            let as-listed : agreeing plan.words s.i s.want picks ≡ e ∷ js = rw (← lent) own in
-            let here : In e (agreeing plan.words s.i s.want picks) = rw as-listed first in
-            let chance = chances.each e (in_keep (λ k. agrees s.i s.want (get_or plan.words k 0)) _ here).0 in
-            record {
-              marks_is = refl;
-              tried = chance.tried;
-              leads = chance.leads;
-              rest = flat_map (paths_with plan marks s.i) js;
-              more_is = some_flat (paths_with plan marks s.i) js
-                  (λ j m'. chance_leads chances s.want j (rw as-listed (later m'))) ∙ sym m;
-              paths_are = λ p wants. chances.all p s.want wants ∙ ap (flat_map (paths_with plan marks s.i)) as-listed;
-            }
+    taken_took {p} e =
+        let first_is = chosen_first chosen e in
+        let js = first_is.rest in
+        let here : In p.e (chosen_at plan marks table s) = rw first_is.split first in
+        let chance = t.told.each p.e (in_keep (λ k. agrees s.i s.want (get_or plan.words k 0)) _ here).0 in
+        record {
+          marks_is = refl;
+          tried = chance.tried;
+          leads = chance.leads;
+          rest = flat_map (paths_with plan marks s.i) js;
+          more_is = some_flat (paths_with plan marks s.i) js
+              (λ j m'. chance_leads t.told s.want j (rw first_is.split (later m'))) ∙ sym first_is.more_is;
+          paths_are = λ q wants. t.told.all q s.want wants ∙ ap (flat_map (paths_with plan marks s.i)) first_is.split;
+        }
 
 -- ---- one word more
 
@@ -152,7 +122,7 @@ module _ {plan : Plan} {marks₀ table first₀ : List ℕ} (asked : Readable pl
       some = s.some;
     }
 
-    pub reading_turn : {marks' : List ℕ} {t : PlacedFirst} {want' : ℕ} {more' : Bool} → i < length plan.words
+    pub reading_turn : {marks' : List ℕ} {t : Pick} {want' : ℕ} {more' : Bool} → i < length plan.words
         → Took plan marks marks' record { i = i; want = want } t
         → want' ≡ get_or plan.words t.e 0 % 4 ^ (plan.l - 1)
         → more' ≡ (more || t.more)

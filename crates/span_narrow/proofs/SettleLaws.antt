@@ -1,13 +1,11 @@
 -- The whole: where the first state is kept and every entry is left, what is read off is the verdict by all builds; and a card with a crowded
 -- place has none. Assumes nothing.
 use mathlib.Core.Path.{◌≡◌, refl, sym, ap, ◌∙◌}
-use mathlib.Core.Logic.{⊎_elim}
 use mathlib.Core.Bool.{Bool, true, false, true≢false}
 use mathlib.Core.List.{List, [], ◌∷◌, ◌++◌}
 use mathlib.Core.Option.{none}
-use Prim.Native.Nat.{ℕ, suc, ◌+◌, ◌-◌, ◌≤◌, ◌<◌}
+use Prim.Native.Nat.{ℕ, suc, ◌-◌, ◌≤◌, ◌<◌}
 use native.Mathlib.Omega.{arith}
-use native.Mathlib.Numerals.{add-one}
 use lib.ListN.{length, get_or, take}
 use lib.Seq.{length-slice, take_at}
 use lib.Dec.{leb, le→leb}
@@ -21,13 +19,12 @@ use Rattle.build_sequence.specs.Build.{spell, Build}
 use Rattle.build_sequence.specs.Worded.{Worded}
 use Rattle.build_sequence.specs.Verdict.{several, Tells}
 use Rattle.base_lists.proofs.TestLaws.{both_and}
-use Rattle.base_lists.proofs.FillingLaws.{same_or_not}
 use Rattle.base_lists.proofs.ListLaws.{keep_in, rising_shorter}
 use Rattle.span_theory.specs.Settling.{span_entries}
 use Rattle.span_theory.specs.Run.{verdict_on}
 use Rattle.span_theory.proofs.Builds.{builds_sound, complete_worded}
 use Rattle.span_theory.proofs.Indices.{in_numbers}
-use Rattle.span_layers.specs.Narrow.{is_over, Narrow, crowd, most_over}
+use Rattle.span_layers.specs.Narrow.{is_over, Narrow, crowd}
 use Rattle.span_layers.specs.Settling.{settles}
 use Rattle.span_layers.specs.Completed.{paths, is_some}
 use Rattle.span_layers.proofs.Paths.{builds_paths, paths_tell}
@@ -43,7 +40,7 @@ use Rattle.span_narrow.specs.States.{Sides}
 use Rattle.span_narrow.specs.Stepping.{Known, Completes}
 use Rattle.span_narrow.specs.Sweeping.{Half}
 use Rattle.span_narrow.specs.ReadOff.{Readable, WasRead}
-use Rattle.span_narrow.specs.Settled.{SettlesLists, Uncrowded, Crowding}
+use Rattle.span_narrow.specs.Settled.{SettlesLists, Crowding}
 use Rattle.span_narrow.proofs.SideLaws.{sides_first, sides_all}
 use Rattle.span_narrow.proofs.SweepLaws.{half_told, begun_kept}
 
@@ -76,27 +73,6 @@ module _ {words ones twos starts slots : List ℕ} (prepared : Prepared words on
         )));
         worded = λ n. absurd n;
       }
-
--- the loop over the places
-pub crowding_found : {starts : List ℕ} {m i a b : ℕ} → i < m → a ≡ get_or starts i 0 → b ≡ get_or starts (i + 1) 0 → a + most_over < b
-    → Crowding starts m true
-crowding_found {starts} {i = i} h e f g = record {
-  some_place = λ q. (i, h, omega (arith, ap (λ n. get_or starts n 0) (add-one i)));
-  no_place = λ q. absurd (true≢false q);
-}
-
-pub uncrowded_none : {starts : List ℕ} → Uncrowded starts 0
-uncrowded_none = record { few = λ j h. absurd (omega arith) }
-
-pub uncrowded_more : {starts : List ℕ} {i a b : ℕ} → Uncrowded starts i → a ≡ get_or starts i 0 → b ≡ get_or starts (i + 1) 0 → b ≤ a + most_over
-    → Uncrowded starts (i + 1)
-uncrowded_more {starts} {i} n e f g = record { few = λ j h. ⊎_elim (here j) (λ k. n.few j (omega arith)) (same_or_not j i) }
-  where
-    here : (j : ℕ) → j ≡ i → get_or starts (suc j) 0 ≤ get_or starts j 0 + most_over
-    here j q = rw q (omega (arith, ap (λ k. get_or starts k 0) (add-one i)))
-
-pub crowding_none : {starts : List ℕ} {m i : ℕ} → Uncrowded starts i → m ≤ i → Crowding starts m false
-crowding_none n h = record { some_place = λ q. absurd (true≢false (sym q)); no_place = λ q. record { few = λ j g. n.few j (omega arith) } }
 
 -- ---- what is read off
 

@@ -3,24 +3,22 @@ use mathlib.Core.Path.{◌≡◌, refl, sym, ap, ◌∙◌}
 use mathlib.Core.Logic.{◌⊎◌, inl, inr, ⊎_elim}
 use mathlib.Core.Bool.{Bool, true, false}
 use mathlib.Core.List.{List}
-use Prim.Native.Nat.{ℕ, ◌+◌, ◌-◌, ◌^◌, ◌≤◌, ◌<◌}
+use Prim.Native.Nat.{ℕ, ◌+◌, ◌≤◌, ◌<◌}
 use native.Mathlib.Omega.{arith}
-use lib.ListN.{length, get_or, take, drop}
+use lib.ListN.{length, get_or, replicate}
+use Rattle.std.proofs.lemmas.List.{get_or-replicate, length-replicate}
 use lib.Dec.{eqb, leb}
 use borrow.Author.Tests.{eqb-true, eq-eqb, leb-true, leb-false}
 use Rattle.card_entries.proofs.HoldLaws.{lists_spans}
 use Rattle.card_entries.proofs.Laws.{span_says}
 use Rattle.base_lists.specs.Members.{In}
 use Rattle.base_lists.proofs.FillingLaws.{same_or_not}
-use Rattle.span_memory.specs.Memory.{Below}
 use Rattle.span_steps.specs.Steps.{is_left, Unmarked}
 use Rattle.span_steps.proofs.OrderLaws.{sooner_apart, rising_each}
-use Rattle.span_steps.proofs.PlaceLaws.{list_lent, list_below}
 use Rattle.span_steps.proofs.SpanLaws.{spans_rise}
-use Rattle.span_narrow.specs.Digits.{Apart, MarkedBy, MarkedWith, Filled}
+use Rattle.span_narrow.specs.Digits.{Apart, MarkedBy, MarkedWith}
 use Rattle.span_narrow.specs.Plan.{Plan, list_on, Planned}
 use Rattle.span_narrow.specs.States.{Sides}
-use Rattle.span_narrow.proofs.StateLaws.{list_long}
 
 -- ---- the list of a place
 
@@ -28,7 +26,7 @@ module _ {plan : Plan} {i : ℕ} (planned : Planned plan) (inside : i < length p
   abbrev table : List ℕ
   table = list_on plan i
 
-  list_apart : Apart table
+  pub list_apart : Apart table
   list_apart = record { each = rising_each (λ j k. sooner_apart plan.words plan.twos j k) (planned.prepared.sorted i inside) }
 
   -- an entry is in the list or it is not
@@ -92,37 +90,22 @@ module _ {plan : Plan} {i : ℕ} (planned : Planned plan) (inside : i < length p
             (λ q. absurd (n (planned.prepared.there i k inside h (omega (arith, q, spans_rise planned.card k h)) (omega (arith, q)))))
             (λ q. omega arith) (same_or_not (get_or plan.twos k 0) i)
 
--- what spreading over the list asks, as the code lends it
-pub spread_asks : {plan : Plan} {i lo hi n b : ℕ} → Planned plan → i < length plan.words
-    → lo ≡ get_or plan.starts i 0
-    → hi ≡ get_or plan.starts (i + 1) 0
-    → n ≡ length plan.words
-    → b < 2 ^ (hi - lo)
-    → Below (take (hi - lo) (drop lo plan.slots)) n
-    × (Apart (take (hi - lo) (drop lo plan.slots)) × (b < 2 ^ length (take (hi - lo) (drop lo plan.slots))))
-spread_asks planned inside lo_is hi-is e few =
-    let lent = list_lent planned.prepared inside lo_is hi-is in
-    (list_below planned.prepared inside lo_is hi-is e, (rw lent (list_apart planned inside), rw (list_long planned inside lo_is hi-is) few))
-
 -- ---- the ends of a sweep
 
-pub sides_marked : {plan : Plan} {marks marks' : List ℕ} → Planned plan
-    → length marks ≡ length plan.words → Filled marks 1 marks'
-    → Sides plan marks' (length plan.words) (length plan.words)
-sides_marked {marks' = marks'} planned all m = record {
-  marks_all = m.all ∙ all;
-  digits = λ k h. omega (arith, m.each k (omega arith));
-  past = λ k h g. absurd (omega (arith, m.each k (omega arith), eqb-true (get_or marks' k 0) 0 g));
-  ahead = λ k h g. absurd (omega (arith, spans_rise planned.card k h, (span_says (lists_spans planned.card refl k h)).below));
-}
+-- each of n numbers is v
+filled_each : {n v k : ℕ} {xs : List ℕ} → xs ≡ replicate n v → k < n → get_or xs k 0 ≡ v
+filled_each {n} {v} {k} e h = rw e (get_or-replicate n k v 0 h)
 
-pub sides_left : {plan : Plan} {marks marks' : List ℕ} → length marks ≡ length plan.words → Filled marks 0 marks'
-    → Sides plan marks' 0 (0 + 1)
-sides_left {marks' = marks'} all m = record {
-  marks_all = m.all ∙ all;
-  digits = λ k h. omega (arith, m.each k (omega arith));
-  past = λ k h g. omega arith;
-  ahead = λ k h g. eq-eqb (get_or marks' k 0) 0 (m.each k (omega arith));
+filled_all : {n : ℕ} (v : ℕ) {xs : List ℕ} → xs ≡ replicate n v → length xs ≡ n
+filled_all {n} v e = rw e (length-replicate n v)
+
+pub sides_marked : {plan : Plan} {n : ℕ} {marks : List ℕ} → Planned plan → n ≡ length plan.words → marks ≡ replicate n 1
+    → Sides plan marks (length plan.words) (length plan.words)
+sides_marked {marks = marks} planned all m = record {
+  marks_all = filled_all _ m ∙ all;
+  digits = λ k h. omega (arith, filled_each {k = k} m (omega arith));
+  past = λ k h g. absurd (omega (arith, filled_each {k = k} m (omega arith), eqb-true (get_or marks k 0) 0 g));
+  ahead = λ k h g. absurd (omega (arith, spans_rise planned.card k h, (span_says (lists_spans planned.card refl k h)).below));
 }
 
 pub sides_back : {plan : Plan} {marks : List ℕ} {i : ℕ} → Sides plan marks (i + 1) (i + 1) → Sides plan marks i (i + 1)

@@ -4,11 +4,10 @@ use mathlib.Core.Path.{◌≡◌, sym, ap, ◌∙◌}
 use mathlib.Core.Logic.{⊎_elim}
 use mathlib.Core.Bool.{true, not, true≢false}
 use mathlib.Core.List.{List}
-use Prim.Native.Nat.{ℕ, suc, ◌+◌, ◌-◌, ◌*◌, ◌^◌, ◌≤◌, ◌<◌}
+use Prim.Native.Nat.{ℕ, ◌+◌, ◌*◌, ◌^◌, ◌≤◌, ◌<◌}
 use native.Mathlib.Omega.{arith}
-use native.Mathlib.Numerals.{add-one}
 use lib.ListN.{length, get_or, set, length-set}
-use lib.Seq.{get_or-set_same, get_or-set_other, length-slice}
+use lib.Seq.{get_or-set_same, get_or-set_other}
 use lib.Pow.{pow_mono}
 use lib.Dec.{eqb}
 use borrow.Author.Tests.{eq-eqb, ne_eqb}
@@ -22,6 +21,7 @@ use Rattle.span_narrow.specs.States.{cells_over, Sides, cell_of, Chances, is_kep
 use Rattle.span_narrow.specs.Stepping.{Trying}
 use Rattle.span_narrow.specs.Sweeping.{Half}
 use Rattle.span_narrow.proofs.PlaceLaws.{tried_next, states_one}
+use Rattle.span_narrow.proofs.StateLaws.{list_few}
 
 -- a number that is not 0 keeps a state
 kept_is : (x : ℕ) → (x ≡ 0 → ⊥) → not (eqb x 0) ≡ true
@@ -31,36 +31,27 @@ is_kept_lem : (x : ℕ) → not (eqb x 0) ≡ true → x ≡ 0 → ⊥
 is_kept_lem x h e = true≢false (sym (rw (eq-eqb x 0 e) at h))
 
 module _ {plan : Plan} (planned : Planned plan) where
-  -- the entries of a place's list
-  list_sets : (i : ℕ) → i < length plan.words → length (list_on plan i) ≡ get_or plan.starts (suc i) 0 - get_or plan.starts i 0
-  list_sets i inside = length-slice (get_or plan.starts i 0) (get_or plan.starts (suc i) 0) plan.slots (planned.prepared.ends i inside)
-
   -- the cell of a state is one of its place's
   pub cell_low : (marks : List ℕ) (i : ℕ) → i < length plan.words → cell_of (list_on plan i) marks i < cells_over * (i + 1)
   cell_low marks i inside =
       let low : 2 ^ length (list_on plan i) ≤ 2 ^ most_over =
-      pow_mono {i = length (list_on plan i)} {j = most_over} (omega (arith, list_sets i inside, planned.few i inside)) in
+      pow_mono {i = length (list_on plan i)} {j = most_over} (list_few planned inside) in
       omega (arith, bits_few marks (list_on plan i))
 
   -- as many as the sets of a place's entries
-  pub sets_few : {i b : ℕ} → i < length plan.words → b ≡ 2 ^ (get_or plan.starts (i + 1) 0 - get_or plan.starts i 0)
+  pub sets_few : {i b : ℕ} → i < length plan.words → b ≡ 2 ^ length (list_on plan i)
       → (b ≤ cells_over) × ((marks : List ℕ) → bits_of marks (list_on plan i) < b)
   sets_few {i} {b} inside is =
-      let long : get_or plan.starts (i + 1) 0 - get_or plan.starts i 0 ≡ length (list_on plan i) =
-      ap (λ n. get_or plan.starts n 0 - get_or plan.starts i 0) (add-one i) ∙ sym (list_sets i inside) in
-      let own : b ≡ 2 ^ length (list_on plan i) = is ∙ ap (λ n. 2 ^ n) long in
       let low : 2 ^ length (list_on plan i) ≤ 2 ^ most_over =
-      pow_mono {i = length (list_on plan i)} {j = most_over} (omega (arith, list_sets i inside, planned.few i inside)) in
+      pow_mono {i = length (list_on plan i)} {j = most_over} (list_few planned inside) in
       (omega arith, λ marks. omega (arith, bits_few marks (list_on plan i)))
 
   -- the next place has its turn
-  pub half_next : {table : List ℕ} (i : ℕ) {lo hi b : ℕ} → Half plan table (i + 1) 0 → i < length plan.words
-      → lo ≡ get_or plan.starts i 0
-      → hi ≡ get_or plan.starts (i + 1) 0
-      → b ≡ 2 ^ (hi - lo)
+  pub half_next : {table : List ℕ} (i : ℕ) {b : ℕ} → Half plan table (i + 1) 0 → i < length plan.words
+      → b ≡ 2 ^ length (list_on plan i)
       → Half plan table i b
-  half_next {table} i {b = b} h low lo_is hi-is is =
-      let few = sets_few {b = b} low (rw (← lo_is) (rw (← hi-is) is)) in
+  half_next {table} i {b} h low is =
+      let few = sets_few {b = b} low is in
       record {
         keeps = h.keeps;
         closed = h.closed;
@@ -146,22 +137,6 @@ module _ {plan : Plan} (planned : Planned plan) where
 pub half_done : {plan : Plan} {table : List ℕ} {i b : ℕ} → Half plan table i b → b ≡ 0
     → Half plan table i 0
 half_done h e = rw e at h
-
--- the place before i, and the end
-module _ {plan : Plan} {marks table : List ℕ} {i : ℕ} (sides : Sides plan marks i i)
-    (half : Half plan table i 0) where
-  pub back_one : 0 < i → Sides plan marks (i - 1 + 1) (i - 1 + 1) × Half plan table (i - 1 + 1) 0
-  back_one some = let again : i - 1 + 1 ≡ i = omega arith in rw again (sides, half)
-
-  pub back_all : i ≤ 0 → Sides plan marks 0 0 × Half plan table 0 0
-  back_all h = let none : i ≡ 0 = omega arith in (rw none at sides, rw none at half)
-
--- the cell of a state is one of the table's
-pub cell_there : {plan : Plan} {table : List ℕ} {i n b : ℕ} → Half plan table i n
-    → i < length plan.words
-    → b < cells_over
-    → cells_over * i + b < length table
-cell_there h inside few = omega (arith, h.room)
 
 -- where all places are done, of every state that is kept the table has the chances
 pub half_told : {plan : Plan} {table marks : List ℕ} {i : ℕ} (h : Half plan table 0 0)

@@ -5,17 +5,17 @@
 --   trial_digits ok leads word c w js
 --                                  == c, and after it a digit for each of js: 1 for one that is tried and leads on, where w was the last word
 --                                     tried
---   FirstOf list ks at more        == `at` is where the first of ks stands in the list, or the list's length where there is none, and `more`
---                                     says whether there is another
+--   FirstIs ks p                   == p is the first of ks, and says whether there is another
+--   FirstOf ks r                   == r is none where ks has none, or that of ks
 --   Apart js                       == no entry is twice in the list
 --   MarkedBy list marks b marks'   == the digits of b are the marks of the list, and the other marks are as they were
 --   MarkedWith list marks v marks' == each entry of the list is marked with v, and the other marks are as they were
---   Filled xs v xs'                == as many numbers, each of which is v
 -- Assumes nothing.
-use Rattle.std.specs.Prelude.{◌≡◌, Bool, false, cond, ◌&&◌, not, List, [], ◌∷◌, ℕ, ◌+◌, ◌*◌, ◌/◌, ◌%◌, ◌^◌, ◌≤◌, ◌<◌, eqb, length, get_or}
+use Rattle.std.specs.Prelude.{◌≡◌, Bool, cond, Option, None, Some, ◌&&◌, not, List, [], ◌∷◌, ℕ, ◌+◌, ◌*◌, ◌/◌, ◌%◌, ◌^◌, ◌≤◌, eqb, length, get_or}
 use Rattle.base_lists.specs.Members.{In, Rising}
 use Rattle.span_layers.specs.Completed.{is_some}
 use Rattle.span_memory.specs.Memory.{bits_of}
+use Rattle.span_narrow.specs.declared.digits.Pick.{Pick}
 
 abbrev pub bit : Bool → ℕ
 bit b = cond b 1 0
@@ -29,9 +29,14 @@ trial_digits ok leads word c w [] = c
 trial_digits ok leads word c w (j ∷ js) =
     cond (ok j && not (eqb (word j) w)) (trial_digits ok leads word (2 * c + bit (leads j)) (word j) js) (trial_digits ok leads word (2 * c) w js)
 
-pub data FirstOf (list ks : List ℕ) (at : ℕ) (more : Bool) : Type 0 where
-  nobody : at ≡ length list → ks ≡ [] → more ≡ false → FirstOf list ks at more
-  somebody : {js : List ℕ} → at < length list → ks ≡ get_or list at 0 ∷ js → more ≡ is_some js → FirstOf list ks at more
+pub record FirstIs (ks : List ℕ) (p : Pick) : Type 0 where
+  pub rest : List ℕ
+  pub split : ks ≡ p.e ∷ rest
+  pub more_is : p.more ≡ is_some rest
+
+pub data FirstOf (ks : List ℕ) (r : Option Pick) : Type 0 where
+  nobody : r ≡ None → ks ≡ [] → FirstOf ks r
+  somebody : {p : Pick} → r ≡ Some p → FirstIs ks p → FirstOf ks r
 
 pub record Apart (js : List ℕ) : Type 0 where
   pub each : Rising (λ j k. j ≡ k → ⊥) js
@@ -46,7 +51,3 @@ pub record MarkedWith (list marks : List ℕ) (v : ℕ) (marks' : List ℕ) : Ty
   pub all : length marks' ≡ length marks
   pub each : (j : ℕ) → In j list → get_or marks' j 0 ≡ v
   pub others : (j : ℕ) → (In j list → ⊥) → get_or marks' j 0 ≡ get_or marks j 0
-
-pub record Filled (xs : List ℕ) (v : ℕ) (xs' : List ℕ) : Type 0 where
-  pub all : length xs' ≡ length xs
-  pub each : (k : ℕ) → k < length xs → get_or xs' k 0 ≡ v

@@ -2,8 +2,8 @@
 --   ListThere starts slots i m            == the list of the place i is among the slots, and has few entries, below m
 --   Keepable plan marks table i           == the lists of the place i and of the next are there, and the table has a cell for each state
 --   Grows from table table'               == what is kept stays kept, and the cells below `from` are as they were
---   is_tried plan marks t                  == the entry of the next slot can stand, and its word is not the last one tried
---   KeptIfTried plan marks table table' t r
+--   is_tried plan marks at tried           == the entry of the slot can stand, and its word is not the last one tried
+--   KeptIfTried plan marks table table' at tried r
 --                                         == where that is so, the state after it is kept; r is the last word tried
 --   KeptAfter plan marks table table' i   == the states that follow on the state at i are kept
 --   KeptBelow plan table n                == a state that follows on one that is kept and has its cell below n is kept; so is the first one
@@ -15,7 +15,7 @@ use Rattle.span_layers.specs.Narrow.{most_over}
 use Rattle.span_memory.specs.Memory.{Below}
 use Rattle.span_tables.specs.Spread.{most_numbered}
 use Rattle.span_tables.specs.Prepared.{list_at}
-use Rattle.span_narrow.specs.declared.keeping.Visit.{Visit}
+use Rattle.span_narrow.specs.declared.chances.Turn.{Turn}
 use Rattle.span_narrow.specs.Plan.{Plan, list_on, Planned}
 use Rattle.span_narrow.specs.States.{cells_over, Sides, cell_of, can_stand, tried_at, is_kept}
 
@@ -39,16 +39,16 @@ pub record Grows (from : ℕ) (table table' : List ℕ) : Type 0 where
   pub same : (k : ℕ) → k < from → get_or table' k 0 ≡ get_or table k 0
   pub keeps : (k : ℕ) → not (eqb (get_or table k 0) 0) ≡ true → not (eqb (get_or table' k 0) 0) ≡ true
 
-abbrev pub is_tried : Plan → List ℕ → Visit → Bool
-is_tried plan marks t =
-    can_stand plan.twos marks t.i t.due (get_or plan.slots t.k 0)
-    && not (eqb (get_or plan.words (get_or plan.slots t.k 0) 0) t.tried)
+abbrev pub is_tried : Plan → List ℕ → Turn → ℕ → Bool
+is_tried plan marks at tried =
+    can_stand plan.twos marks at.i at.due (get_or plan.slots at.k 0)
+    && not (eqb (get_or plan.words (get_or plan.slots at.k 0) 0) tried)
 
-pub record KeptIfTried (plan : Plan) (marks table table' : List ℕ) (t : Visit) (r : ℕ) : Type 0 where
-  pub grows : Grows (cells_over * (t.i + 1)) table table'
-  pub skipped : is_tried plan marks t ≡ false → r ≡ t.tried
-  pub taken : is_tried plan marks t ≡ true → (r ≡ get_or plan.words (get_or plan.slots t.k 0) 0)
-      × (is_kept plan (set marks (get_or plan.slots t.k 0) 1) table' (t.i + 1) ≡ true)
+pub record KeptIfTried (plan : Plan) (marks table table' : List ℕ) (at : Turn) (tried r : ℕ) : Type 0 where
+  pub grows : Grows (cells_over * (at.i + 1)) table table'
+  pub skipped : is_tried plan marks at tried ≡ false → r ≡ tried
+  pub taken : is_tried plan marks at tried ≡ true → (r ≡ get_or plan.words (get_or plan.slots at.k 0) 0)
+      × (is_kept plan (set marks (get_or plan.slots at.k 0) 1) table' (at.i + 1) ≡ true)
 
 pub record KeptAfter (plan : Plan) (marks table table' : List ℕ) (i : ℕ) : Type 0 where
   pub grows : Grows (cells_over * (i + 1)) table table'

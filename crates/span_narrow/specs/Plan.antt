@@ -5,6 +5,7 @@
 --   first_places starts slots m     == of each of m entries the first place whose list has it: where its span begins
 --   plan_of l words twos starts slots
 --                                  == the plan of these lists
+--   plan_in c                       == the same of the struct that the code reads
 --   list_on plan i                  == the list of the place i
 --   left_on plan marks              == the entries that are left
 --   Planned plan                   == lists of a span card, with the lists of its places, none of which is crowded
@@ -18,6 +19,7 @@ use Rattle.span_layers.specs.Completed.{is_some}
 use Rattle.card_entries.specs.KindLists.{SpanLists}
 use Rattle.span_tables.specs.Prepared.{Prepared, list_at}
 use Rattle.span_steps.specs.Steps.{left}
+use Rattle.span_narrow.specs.declared.Layout.{Layout}
 
 pub record Plan : Type 0 where
   pub l : ℕ
@@ -41,6 +43,9 @@ first_places starts slots m = row (λ j. first_with (is_listed starts slots j) m
 abbrev pub plan_of : ℕ → List ℕ → List ℕ → List ℕ → List ℕ → Plan
 plan_of l words twos starts slots =
     record { l = l; words = words; ones = first_places starts slots (length words); twos = twos; starts = starts; slots = slots }
+
+abbrev pub plan_in : Layout → Plan
+plan_in c = plan_of c.l c.tables.words.now c.tables.twos.now c.tables.starts.now c.tables.slots.now
 
 abbrev pub list_on : Plan → ℕ → List ℕ
 list_on plan i = list_at plan.starts plan.slots i

@@ -11,7 +11,7 @@ use Rattle.base_lists.specs.Members.{In}
 use Rattle.span_layers.specs.Completed.{paths, is_some}
 use Rattle.span_steps.specs.Steps.{Wants}
 use Rattle.span_narrow.specs.declared.chances.Spot.{Spot}
-use Rattle.span_narrow.specs.declared.reading.PlacedFirst.{PlacedFirst}
+use Rattle.span_narrow.specs.declared.digits.Pick.{Pick}
 use Rattle.span_narrow.specs.Plan.{Plan, left_on, Planned}
 use Rattle.span_narrow.specs.States.{cells_over, Sides, tried_at, paths_after, paths_with, HasChances}
 use Rattle.span_narrow.specs.Sweeping.{Half}
@@ -26,7 +26,7 @@ pub record Taking (plan : Plan) (marks table : List ℕ) (s : Spot) : Type 0 whe
   pub wants : Wants plan.l s.i s.want word_before
   pub some : is_some (paths plan.l (length plan.words - s.i) s.i word_before (left_on plan marks)) ≡ true
 
-pub record Took (plan : Plan) (marks marks' : List ℕ) (s : Spot) (t : PlacedFirst) : Type 0 where
+pub record Took (plan : Plan) (marks marks' : List ℕ) (s : Spot) (t : Pick) : Type 0 where
   pub marks_is : marks' ≡ set marks t.e 1
   pub tried : In t.e (tried_at plan marks s.i)
   pub leads : is_some (paths_after plan marks s.i t.e) ≡ true

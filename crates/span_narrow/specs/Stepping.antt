@@ -4,7 +4,7 @@
 --   Completes plan marks s r                == r says whether a build is completed from the state at the spot s
 --   Leading plan marks table i e            == entry e is tried from the state at i, and of the state after it the table has the chances
 --   Trying plan marks table i               == of each state that follows on the state at i the table has the chances
---   Trials plan marks t                     == the entries of the list before the next slot were tried: c has their digits
+--   Trials plan marks at t                  == the entries of the list before the slot were tried: c has their digits
 -- Assumes nothing.
 use Rattle.std.specs.Prelude.{◌≡◌, Bool, List, ℕ, ◌+◌, ◌-◌, ◌*◌, ◌^◌, ◌≤◌, ◌<◌, length, get_or, set}
 use Rattle.std.proofs.Math.Option.{Option}
@@ -14,9 +14,10 @@ use Rattle.base_lists.specs.Parts.{part}
 use Rattle.span_steps.specs.Steps.{no_word, tries, Wants}
 use Rattle.span_narrow.specs.declared.chances.Spot.{Spot}
 use Rattle.span_narrow.specs.declared.chances.Trial.{Trial}
-use Rattle.span_narrow.specs.Digits.{trial_digits}
+use Rattle.span_narrow.specs.declared.chances.Turn.{Turn}
+use Rattle.span_narrow.specs.Digits.{picked, trial_digits}
 use Rattle.span_narrow.specs.Plan.{Plan, list_on, left_on, Planned}
-use Rattle.span_narrow.specs.States.{cells_over, Sides, cell_of, dues_in, can_stand, tried_at, paths_after, HasChances}
+use Rattle.span_narrow.specs.States.{cells_over, Sides, cell_of, dues_in, can_stand, tried_at, paths_after, agreeing, HasChances}
 
 pub record Cell (list marks : List ℕ) (i r : ℕ) : Type 0 where
   pub is : r ≡ cell_of list marks i
@@ -28,6 +29,11 @@ pub record Known (plan : Plan) (marks table : List ℕ) (i : ℕ) : Type 0 where
   pub room : cells_over * length plan.words ≤ length table
   pub sides : Sides plan marks i (i + 1)
   pub told : i < length plan.words → HasChances plan marks table i
+
+-- of the place's list those whom the state's cell picks and whose word agrees
+abbrev pub chosen_at : Plan → List ℕ → List ℕ → Spot → List ℕ
+chosen_at plan marks table s =
+    agreeing plan.words s.i s.want (picked (get_or table (cell_of (list_on plan s.i) marks s.i) 0) (list_on plan s.i))
 
 pub record Completes (plan : Plan) (marks : List ℕ) (s : Spot) (r : Bool) : Type 0 where
   pub each : (p : Option ℕ) → Wants plan.l s.i s.want p
@@ -52,15 +58,19 @@ pub record Trying (plan : Plan) (marks table : List ℕ) (i : ℕ) : Type 0 wher
 abbrev pub list_from : Plan → ℕ → ℕ → List ℕ
 list_from plan i k = part plan.slots k (get_or plan.starts (i + 1) 0)
 
-pub record Trials (plan : Plan) (marks : List ℕ) (t : Trial) : Type 0 where
-  pub from : get_or plan.starts t.i 0 ≤ t.k
-  pub to : t.k ≤ get_or plan.starts (t.i + 1) 0
-  pub due_is : t.due ≡ dues_in plan.twos marks t.i (list_on plan t.i)
-  pub few : t.c < 2 ^ (t.k - get_or plan.starts t.i 0)
+-- the next slot
+abbrev pub next_turn : Turn → Turn
+next_turn at = record { i = at.i; k = at.k + 1; due = at.due }
+
+pub record Trials (plan : Plan) (marks : List ℕ) (at : Turn) (t : Trial) : Type 0 where
+  pub from : get_or plan.starts at.i 0 ≤ at.k
+  pub to : at.k ≤ get_or plan.starts (at.i + 1) 0
+  pub due_is : at.due ≡ dues_in plan.twos marks at.i (list_on plan at.i)
+  pub few : t.c < 2 ^ (at.k - get_or plan.starts at.i 0)
   pub among : (j : ℕ)
-      → In j (tries (can_stand plan.twos marks t.i t.due) (λ x. get_or plan.words x 0) t.tried (list_from plan t.i t.k))
-      → In j (tried_at plan marks t.i)
-  pub rest : trial_digits (can_stand plan.twos marks t.i t.due) (λ j. is_some (paths_after plan marks t.i j)) (λ j. get_or plan.words j 0)
-      t.c t.tried (list_from plan t.i t.k)
-      ≡ trial_digits (can_stand plan.twos marks t.i t.due) (λ j. is_some (paths_after plan marks t.i j)) (λ j. get_or plan.words j 0)
-      0 no_word (list_on plan t.i)
+      → In j (tries (can_stand plan.twos marks at.i at.due) (λ x. get_or plan.words x 0) t.tried (list_from plan at.i at.k))
+      → In j (tried_at plan marks at.i)
+  pub rest : trial_digits (can_stand plan.twos marks at.i at.due) (λ j. is_some (paths_after plan marks at.i j)) (λ j. get_or plan.words j 0)
+      t.c t.tried (list_from plan at.i at.k)
+      ≡ trial_digits (can_stand plan.twos marks at.i at.due) (λ j. is_some (paths_after plan marks at.i j)) (λ j. get_or plan.words j 0)
+      0 no_word (list_on plan at.i)

@@ -5,11 +5,13 @@ ghost use Rattle.span_layers.specs.Narrow.{most_over};
 ghost use Rattle.span_layers.specs.Completed.{is_some};
 ghost use Rattle.span_memory.specs.Memory.{Below};
 ghost use Rattle.span_tables.specs.Spread.{most_numbered};
-ghost use Rattle.span_narrow.specs.Plan.{plan_of};
+ghost use Rattle.span_narrow.specs.Plan.{plan_in};
 ghost use Rattle.span_narrow.specs.States.{dues_in, can_stand, paths_after, Chances};
-ghost use Rattle.span_narrow.specs.Stepping.{Cell, Known, Completes, Leading, Trying, Trials};
+ghost use Rattle.span_narrow.specs.Digits.{FirstOf};
+ghost use Rattle.span_narrow.specs.Stepping.{Cell, Known, chosen_at, Completes, Leading, Trying, Trials, next_turn};
 
-use crate::{CELLS, digits};
+use crate::digits::{self, Pick};
+use crate::{CELLS, Layout};
 use span_steps::NO_WORD;
 
 // The cell of the state at the place i, whose list is lent.
@@ -35,15 +37,9 @@ pub fn dues(list: &[u16], twos: &[u16], marks: &[u8], i: usize) -> usize
     requires marks_len { length marks.now ≡ length twos.now }
     ensures { result ≡ dues_in twos.now marks.now i list.now }
 {
-    let mut n = 0;
-    let mut k = 0;
-    while k < list.len() {
-        if span_steps::is_due(twos, marks, span_steps::at16(list, k), i) {
-            n += 1;
-        }
-        k += 1;
-    }
-    n
+    list.iter()
+        .filter(|e| span_steps::is_due(twos, marks, usize::from(**e), i))
+        .count()
 }
 
 // Whether the entry e is left, no other that is left ends at i, where `dues` of them do, and its word is not the last one tried.
@@ -59,16 +55,7 @@ pub fn can_stand(
     requires { (e < length words.now) × (e < length twos.now) × (e < length marks.now) }
     ensures { result ≡ (can_stand twos.now marks.now i dues e && not (eqb (get_or words.now e 0) tried)) }
 {
-    if words[e] == tried {
-        return false;
-    }
-    if marks[e] != 0 {
-        return false;
-    }
-    if span_steps::is_due(twos, marks, e, i) {
-        return dues == 1;
-    }
-    dues == 0
+    words[e] != tried && marks[e] == 0 && dues == usize::from(span_steps::is_due(twos, marks, e, i))
 }
 
 // A place that is next to be filled, and the last letters of the word before it.
@@ -78,154 +65,91 @@ pub struct Spot {
     pub want: u32,
 }
 
-// Whether a build is completed from the state at the spot s.
-pub fn completes(
-    l: usize,
-    words: &[u32],
-    twos: &[u16],
-    starts: &[u32],
-    slots: &[u16],
-    marks: &[u8],
-    table: &[u8],
-    s: Spot,
-) -> bool
-    requires { Known (plan_of l words.now twos.now starts.now slots.now) marks.now table.now s.i }
-    ensures { Completes (plan_of l words.now twos.now starts.now slots.now) marks.now s result }
-{
-    let i = s.i;
-    if i == words.len() {
-        return true;
-    }
-    let lo = span_steps::start_of(starts, i);
-    let end = span_steps::start_of(starts, i + 1);
-    let c = table[cell_of(&slots[lo..end], marks, i)];
-    digits::choose(&slots[lo..end], words, c, i, s.want).at < end - lo
-}
-
-// An entry, and the place where it is to stand.
+// A slot of the list of the place i, whose entry is next to be tried there; `due` entries that are left end at i.
 #[derive(Clone, Copy)]
-struct Stand {
-    e: usize,
-    i: usize,
+pub struct Turn {
+    pub i: usize,
+    pub k: usize,
+    pub due: usize,
 }
 
-// Whether a build is completed once the entry stands at the place.
-fn leads(
-    l: usize,
-    words: &[u32],
-    twos: &[u16],
-    starts: &[u32],
-    slots: &[u16],
-    marks: &mut [u8],
-    table: &[u8],
-    s: Stand,
-) -> bool
-    requires { Leading (plan_of l words.now twos.now starts.now slots.now) marks.old table.now s.i s.e }
-    ensures value { result
-        ≡ is_some
-        (paths_after
-        (plan_of l words.now twos.now starts.now slots.now)
-        marks.old
-        s.i
-        s.e) }
-    ensures marks_unchanged { marks.new ≡ marks.old }
-{
-    let e = s.e;
-    marks[e] = 1;
-    let next = Spot {
-        i: s.i + 1,
-        want: tail_of(words[e], l),
-    };
-    let r = completes(l, words, twos, starts, slots, marks, table, next);
-    marks[e] = 0;
-    r
-}
-
-// How far the list of the place i was tried: the next slot, how many are due, the digits so far, and the last word tried.
+// The digits of the entries that were tried, and the last word tried.
 #[derive(Clone, Copy)]
 struct Trial {
-    i: usize,
-    k: usize,
-    due: usize,
     c: u8,
     tried: u32,
 }
 
-// The entry of the next slot is tried, if it can stand at the place: its digit is 1 where it leads on.
-fn try_next(
-    l: usize,
-    words: &[u32],
-    twos: &[u16],
-    starts: &[u32],
-    slots: &[u16],
-    marks: &mut [u8],
-    table: &[u8],
-    t: Trial,
-) -> Trial
-    requires trying { Trying (plan_of l words.now twos.now starts.now slots.now) marks.old table.now t.i }
-    requires trials { Trials (plan_of l words.now twos.now starts.now slots.now) marks.old t × (t.k < get_or starts.now (t.i + 1) 0) }
-    ensures tried_next { Trials (plan_of l words.now twos.now starts.now slots.now) marks.old result
-        × (result.k ≡ t.k + 1) × (result.i ≡ t.i) }
-    ensures marks_unchanged { marks.new ≡ marks.old }
-{
-    let at = t.k;
-    let i = t.i;
-    let e = span_steps::at16(slots, at);
-    let c = 2 * t.c;
-    if !can_stand(words, twos, marks, e, i, t.due, t.tried) {
-        return Trial {
-            i,
-            k: at + 1,
-            due: t.due,
-            c,
-            tried: t.tried,
-        };
+impl Layout<'_> {
+    // The first of those that lead on from the state at the spot s, by its cell of the table.
+    pub fn choose_at(&self, marks: &[u8], table: &[u8], s: Spot) -> Option<Pick>
+        requires known { Known (plan_in self.now) marks.now table.now s.i }
+        requires inside { s.i < length self.now.tables.words.now }
+        ensures { FirstOf (chosen_at (plan_in self.now) marks.now table.now s) result }
+    {
+        let list = self.tables.list(s.i);
+        let c = table[cell_of(list, marks, s.i)];
+        digits::choose(list, self.tables.words, c, s.i, s.want)
     }
-    let w = words[e];
-    if leads(l, words, twos, starts, slots, marks, table, Stand { e, i }) {
-        return Trial {
-            i,
-            k: at + 1,
-            due: t.due,
-            c: c + 1,
-            tried: w,
-        };
-    }
-    Trial {
-        i,
-        k: at + 1,
-        due: t.due,
-        c,
-        tried: w,
-    }
-}
 
-// The entries that can stand at the place i and lead on, a digit for each of the place's list. Of equal words the first is tried.
-pub fn chances(
-    l: usize,
-    words: &[u32],
-    twos: &[u16],
-    starts: &[u32],
-    slots: &[u16],
-    marks: &mut [u8],
-    table: &[u8],
-    i: usize,
-) -> u8
-    requires { Trying (plan_of l words.now twos.now starts.now slots.now) marks.old table.now i }
-    ensures chances { Chances (plan_of l words.now twos.now starts.now slots.now) marks.old i result }
-    ensures marks_unchanged { marks.new ≡ marks.old }
-{
-    let lo = span_steps::start_of(starts, i);
-    let end = span_steps::start_of(starts, i + 1);
-    let mut t = Trial {
-        i,
-        k: lo,
-        due: dues(&slots[lo..end], twos, marks, i),
-        c: 0,
-        tried: NO_WORD,
-    };
-    while t.k < end {
-        t = try_next(l, words, twos, starts, slots, marks, table, t);
+    // Whether a build is completed from the state at the spot s.
+    pub fn completes(&self, marks: &[u8], table: &[u8], s: Spot) -> bool
+        requires { Known (plan_in self.now) marks.now table.now s.i }
+        ensures { Completes (plan_in self.now) marks.now s result }
+    {
+        s.i == self.tables.words.len() || self.choose_at(marks, table, s).is_some()
     }
-    t.c
+
+    // Whether a build is completed once the entry e stands at the place i.
+    fn leads(&self, marks: &mut [u8], table: &[u8], i: usize, e: usize) -> bool
+        requires { Leading (plan_in self.now) marks.old table.now i e }
+        ensures value { result ≡ is_some (paths_after (plan_in self.now) marks.old i e) }
+        ensures marks_unchanged { marks.new ≡ marks.old }
+    {
+        marks[e] = 1;
+        let next = Spot {
+            i: i + 1,
+            want: tail_of(self.tables.words[e], self.l),
+        };
+        let r = self.completes(marks, table, next);
+        marks[e] = 0;
+        r
+    }
+
+    // The entry of the slot is tried, if it can stand at the place: its digit is 1 where it leads on.
+    fn try_next(&self, marks: &mut [u8], table: &[u8], at: Turn, t: Trial) -> Trial
+        requires trying { Trying (plan_in self.now) marks.old table.now at.i }
+        requires trials { Trials (plan_in self.now) marks.old at t × (at.k < get_or self.now.tables.starts.now (at.i + 1) 0) }
+        ensures tried_next { Trials (plan_in self.now) marks.old (next_turn at) result }
+        ensures marks_unchanged { marks.new ≡ marks.old }
+    {
+        let Turn { i, k, due } = at;
+        let words = self.tables.words;
+        let e = self.tables.entry_at(k);
+        let c = 2 * t.c;
+        if !can_stand(words, self.tables.twos, marks, e, i, due, t.tried) {
+            return Trial { c, ..t };
+        }
+        Trial {
+            c: c + u8::from(self.leads(marks, table, i, e)),
+            tried: words[e],
+        }
+    }
+
+    // The entries that can stand at the place i and lead on, a digit for each of the place's list. Of equal words the first is tried.
+    pub fn chances(&self, marks: &mut [u8], table: &[u8], i: usize) -> u8
+        requires { Trying (plan_in self.now) marks.old table.now i }
+        ensures chances { Chances (plan_in self.now) marks.old i result }
+        ensures marks_unchanged { marks.new ≡ marks.old }
+    {
+        let due = dues(self.tables.list(i), self.tables.twos, marks, i);
+        let mut t = Trial {
+            c: 0,
+            tried: NO_WORD,
+        };
+        for k in self.tables.start_of(i)..self.tables.start_of(i + 1) {
+            t = self.try_next(marks, table, Turn { i, k, due }, t);
+        }
+        t.c
+    }
 }

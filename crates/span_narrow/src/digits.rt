@@ -2,13 +2,13 @@
 ghost use Rattle.std.specs.Prelude.{◌≡◌, ◌&&◌, ◌%◌, ◌^◌, ◌<◌, eqb, length};
 ghost use Rattle.span_memory.specs.Memory.{Below};
 ghost use Rattle.span_steps.specs.Steps.{agrees};
-ghost use Rattle.span_narrow.specs.Digits.{picked, FirstOf, Apart, MarkedBy, MarkedWith, Filled};
+ghost use Rattle.span_narrow.specs.Digits.{picked, FirstOf, Apart, MarkedBy, MarkedWith};
 ghost use Rattle.span_narrow.specs.States.{agreeing};
 
-// Who is chosen of a list: where the first stands, or the list's length, and whether there is another.
+// Who is chosen of a list, and whether another could have been.
 #[derive(Clone, Copy)]
 pub struct Pick {
-    pub at: usize,
+    pub e: usize,
     pub more: bool,
 }
 
@@ -16,32 +16,27 @@ pub struct Pick {
 fn is_picked(c: u8, w: u32, i: usize, want: u32) -> bool
     ensures { result ≡ (eqb (c % 2) 1 && agrees i want w) }
 {
-    if c % 2 == 1 {
-        return span_steps::agrees(w, i, want);
-    }
-    false
+    c % 2 == 1 && span_steps::agrees(w, i, want)
 }
 
-// Of the entries of the list those that c picks and whose word agrees: the first, and whether there is another.
-pub fn choose(list: &[u16], words: &[u32], c: u8, i: usize, want: u32) -> Pick
+// Of the entries of the list those that c picks and whose word agrees: the first, where there is one, and whether there is another.
+pub fn choose(list: &[u16], words: &[u32], c: u8, i: usize, want: u32) -> Option<Pick>
     requires { Below list.now (length words.now) }
-    ensures { FirstOf list.now (agreeing words.now i want (picked c list.now)) result.at result.more }
+    ensures { FirstOf (agreeing words.now i want (picked c list.now)) result }
 {
-    let n = list.len();
-    let mut at = n;
-    let mut more = false;
-    let mut k = n;
+    let mut chosen: Option<Pick> = None;
     let mut rest = c;
-    while 0 < k {
-        k -= 1;
-        let e = span_steps::at16(list, k);
+    for e in list.iter().rev() {
+        let e = usize::from(*e);
         if is_picked(rest, words[e], i, want) {
-            more = at < n;
-            at = k;
+            chosen = Some(Pick {
+                e,
+                more: chosen.is_some(),
+            });
         }
-        rest = rest / 2;
+        rest /= 2;
     }
-    Pick { at, more }
+    chosen
 }
 
 // Marks the entries of the list by the digits of b.
@@ -51,13 +46,10 @@ pub fn spread(list: &[u16], marks: &mut [u8], b: usize)
     requires b_bound { b < 2 ^ length list.now }
     ensures { MarkedBy list.now marks.old b marks.new }
 {
-    let mut k = list.len();
     let mut rest = b;
-    while 0 < k {
-        k -= 1;
-        let e = span_steps::at16(list, k);
-        marks[e] = (rest % 2) as u8;
-        rest = rest / 2;
+    for e in list.iter().rev() {
+        marks[usize::from(*e)] = (rest % 2) as u8;
+        rest /= 2;
     }
 }
 
@@ -66,21 +58,7 @@ pub fn mark_list(list: &[u16], marks: &mut [u8], v: u8)
     requires { Below list.now (length marks.old) }
     ensures { MarkedWith list.now marks.old v marks.new }
 {
-    let mut k = 0;
-    while k < list.len() {
-        let e = span_steps::at16(list, k);
-        marks[e] = v;
-        k += 1;
-    }
-}
-
-// Every number of the list is v.
-pub fn fill(list: &mut [u8], v: u8)
-    ensures { Filled list.old v list.new }
-{
-    let mut k = 0;
-    while k < list.len() {
-        list[k] = v;
-        k += 1;
+    for e in list {
+        marks[usize::from(*e)] = v;
     }
 }

@@ -15,14 +15,14 @@ ghost use Rattle.std.specs.Prelude.{◌*◌, ◌≤◌, ◌<◌, ◌≡◌, leng
 ghost use Rattle.card_entries.specs.Slot.{entries_in};
 ghost use Rattle.card_entries.specs.KindLists.{SpanLists};
 ghost use Rattle.span_layers.specs.Narrow.{Narrow};
-ghost use Rattle.span_narrow.specs.Plan.{first_places, plan_of, Planned};
+ghost use Rattle.span_narrow.specs.Plan.{plan_in, Planned};
 ghost use Rattle.span_narrow.specs.States.{cells_over};
 ghost use Rattle.span_narrow.specs.Settled.{SettlesLists, Crowding};
 
 use build_method::MethodAnswer;
-use card_entries::MOST;
+use card_entries::{EntryLists, MOST};
 use chances::Spot;
-use span_steps::SLOTS;
+use span_steps::{SLOTS, Tables};
 
 // So many sets have the entries over a place that is not crowded: the table has as many cells for each place.
 const CELLS: usize = 128;
@@ -36,87 +36,71 @@ fn crowded(starts: &[u32], m: usize) -> bool
     requires { m < length starts.now }
     ensures { Crowding starts.now m result }
 {
-    let mut i = 0;
-    while i < m {
-        if span_steps::start_of(starts, i) + CROWD <= span_steps::start_of(starts, i + 1) {
-            return true;
-        }
-        i += 1;
-    }
-    false
+    (0..m).any(|i| starts[i] as usize + CROWD <= starts[i + 1] as usize)
 }
 
-// The build of a card that is laid out, with no crowded place.
-fn settle_laid(
+// A card that is laid out: the letters of a word, and the tables.
+#[derive(Clone, Copy)]
+struct Layout<'a> {
     l: usize,
-    words: &[u32],
-    twos: &[u16],
-    starts: &[u32],
-    slots: &[u16],
-    marks: &mut [u8],
-    table: &mut [u8],
-    first: &mut [u32],
-) -> MethodAnswer
-    requires planned { Planned (plan_of l words.now twos.now starts.now slots.now) }
-    requires marks_len { (length marks.old ≡ length words.now) × (cells_over * length words.now ≤ length table.old)
-        × (length first.old ≡ length words.now) }
-    ensures settles_lists { SettlesLists
-        l
-        (entries_in
-        words.now
-        (first_places starts.now slots.now (length words.now))
-        twos.now)
-        result
-        first.new }
-    ensures first_len { length first.new ≡ length words.now }
-{
-    keeping::keep(l, words, twos, starts, slots, marks, table);
-    sweeping::sweep(l, words, twos, starts, slots, marks, table);
-    let first_spot = Spot { i: 0, want: 0 };
-    if !chances::completes(l, words, twos, starts, slots, marks, table, first_spot) {
-        return MethodAnswer::None(0);
+    tables: Tables<'a>,
+}
+
+impl Layout<'_> {
+    // The build of a card with no crowded place.
+    fn settle(&self, marks: &mut [u8], table: &mut [u8], first: &mut [u32]) -> MethodAnswer
+        requires planned { Planned (plan_in self.now) }
+        requires marks_len { (length marks.old ≡ length self.now.tables.words.now)
+            × (cells_over * length self.now.tables.words.now ≤ length table.old)
+            × (length first.old ≡ length self.now.tables.words.now) }
+        ensures settles_lists { SettlesLists
+            self.now.l
+            (entries_in (plan_in self.now).words (plan_in self.now).ones (plan_in self.now).twos)
+            result
+            first.new }
+        ensures first_len { length first.new ≡ length self.now.tables.words.now }
+    {
+        self.keep(marks, table);
+        self.sweep(marks, table);
+        if !self.completes(marks, table, Spot { i: 0, want: 0 }) {
+            return MethodAnswer::None(0);
+        }
+        if self.read_off(marks, table, first) {
+            return MethodAnswer::Several(0);
+        }
+        MethodAnswer::Sole(0)
     }
-    if reading::read_off(l, words, twos, starts, slots, marks, table, first) {
-        return MethodAnswer::Several(0);
-    }
-    MethodAnswer::Sole(0)
 }
 
 // The build of span lists that the entry rules admit, each span at most 4 wide: one, several or none, with no budget. Where it gives a
 // build, `found` begins with the words of the alphabetically first one.
-pub fn settle(
-    l: usize,
-    words: &[u32],
-    ones: &[u16],
-    twos: &[u16],
-    found: &mut [u32],
-) -> MethodAnswer
-    requires span_lists { SpanLists l words.now ones.now twos.now }
-    requires narrow { Narrow (entries_in words.now ones.now twos.now) }
-    requires words_in_bounds { length words.now ≤ length found.old }
+pub fn settle(l: usize, lists: &EntryLists, found: &mut [u32]) -> MethodAnswer
+    requires span_lists { SpanLists l lists.now.words.now lists.now.ones.now lists.now.twos.now }
+    requires narrow { Narrow (entries_in lists.now.words.now lists.now.ones.now lists.now.twos.now) }
+    requires words_in_bounds { length lists.now.words.now ≤ length found.old }
     ensures { SettlesLists
         l
-        (entries_in words.now ones.now twos.now)
+        (entries_in lists.now.words.now lists.now.ones.now lists.now.twos.now)
         result
-        (take (length words.now) found.new) }
+        (take (length lists.now.words.now) found.new) }
 {
-    let m = words.len();
+    let m = lists.words.len();
     let mut starts = [0; MOST + 1];
     let mut slots = [0; SLOTS];
-    span_tables::prepare(l, words, ones, twos, &mut starts, &mut slots);
+    span_tables::prepare(l, lists, &mut starts, &mut slots);
     if crowded(&starts, m) {
         return MethodAnswer::None(0);
     }
     let mut marks = [0; MOST];
     let mut table = [0; TABLE];
-    settle_laid(
+    let card = Layout {
         l,
-        words,
-        twos,
-        &starts,
-        &slots,
-        &mut marks[..m],
-        &mut table,
-        &mut found[..m],
-    )
+        tables: Tables {
+            words: lists.words,
+            twos: lists.twos,
+            starts: &starts,
+            slots: &slots,
+        },
+    };
+    card.settle(&mut marks[..m], &mut table, &mut found[..m])
 }

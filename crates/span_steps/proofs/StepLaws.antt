@@ -5,15 +5,15 @@ use mathlib.Core.List.{List, [], ◌∷◌}
 use Prim.Native.Nat.{ℕ, zero, suc, ◌+◌, ◌-◌, ◌/◌, ◌≤◌, ◌<◌}
 use native.Mathlib.Omega.{arith}
 use native.Mathlib.Numerals.{add-one}
-use lib.ListN.{length, get_or, take, drop, drop_of_length-le}
-use lib.Seq.{slice-cons, length-take-le, take-add, drop_at}
+use lib.ListN.{length, get_or, take, drop_of_length-le}
+use lib.Seq.{slice-cons, length-take-le}
 use lib.Dec.{eqb}
-use borrow.Author.Tests.{eq-eqb, ne_eqb}
-use Rattle.base_lists.proofs.TestLaws.{both, and_false, and_true}
+use borrow.Author.Tests.{eq-eqb}
+use Rattle.base_lists.proofs.TestLaws.{both}
 use Rattle.base_lists.specs.Members.{In, first, later}
 use Rattle.base_lists.specs.Parts.{part}
 use Rattle.span_tables.specs.Prepared.{list_at}
-use Rattle.span_steps.specs.Steps.{is_left, agrees, able, is_due}
+use Rattle.span_steps.specs.Steps.{is_left, agrees, able}
 
 -- ---- parts
 
@@ -22,14 +22,6 @@ part_cons xs k hi h g = slice-cons k hi xs 0 h g ∙ ap (λ (n : ℕ). get_or xs
 
 pub part_none : (xs : List ℕ) (k hi : ℕ) → hi ≤ k → hi ≤ length xs → part xs k hi ≡ []
 part_none xs k hi h g = drop_of_length-le (take hi xs) {i = k} (omega (arith, length-take-le hi xs g))
-
--- a part as the code lends it
-pub part_lent : (xs : List ℕ) (lo hi : ℕ) → lo ≤ hi → hi ≤ length xs → take (hi - lo) (drop lo xs) ≡ part xs lo hi
-part_lent xs lo hi h there =
-    let d = hi - lo in
-    let sum : hi ≡ lo + d = omega arith in
-    sym (ap (λ (n : ℕ). drop lo (take n xs)) sum ∙ ap (drop lo) (take-add lo d xs)
-    ∙ drop_at (take lo xs) (take d (drop lo xs)) lo (length-take-le lo xs (omega arith)))
 
 -- what stands from lo up to hi is in the part
 pub in_part : (xs : List ℕ) (lo hi x : ℕ) → lo ≤ x → x < hi → hi ≤ length xs → In (get_or xs x 0) (part xs lo hi)
@@ -55,13 +47,6 @@ module _ (i want w : ℕ) where
       go true = refl
       go false = refl
 
-  pub agrees_by_place : (w / 4 ≡ want → ⊥) → agrees i want w ≡ eqb i 0
-  agrees_by_place h = rw (ne_eqb (w / 4) want h) (go (eqb i 0))
-    where
-      go : (b : Bool) → cond b true false ≡ b
-      go true = refl
-      go false = refl
-
 -- who is able is left,
 pub able_left : (words marks : List ℕ) (i want e : ℕ) → able words marks i want e ≡ true → is_left marks e ≡ true
 unfolding able
@@ -71,12 +56,3 @@ able_left words marks i want e h = (both _ _ h).0
 pub able_is : (words marks : List ℕ) (i want e : ℕ) → able words marks i want e ≡ is_left marks e && agrees i want (get_or words e 0)
 unfolding able
 able_is words marks i want e = refl
-
-module _ (twos marks : List ℕ) (i e : ℕ) where
-  pub due_elsewhere : (get_or twos e 0 ≡ i → ⊥) → is_due twos marks i e ≡ false
-  unfolding is_due
-  due_elsewhere h = rw (ne_eqb (get_or twos e 0) i h) (and_false (is_left marks e))
-
-  pub due_here : get_or twos e 0 ≡ i → is_due twos marks i e ≡ is_left marks e
-  unfolding is_due
-  due_here h = rw (eq-eqb (get_or twos e 0) i h) (and_true (is_left marks e))

@@ -10,11 +10,13 @@
 --   opened dues table              == what may be tried of the table, by those of it that are due: all, the one, or nothing
 --   WalkTables                     == what is read: the words and last places of the entries, where the list of each place begins, and
 --                                     all the lists
+--   tables_of t                    == the same of the struct that the code reads
 --   tries ok word w js             == those of js that are tried where w was the last word tried: of equal words the first
 -- Assumes nothing.
 use Rattle.std.specs.Prelude.{Bool, true, cond, ◌&&◌, not, List, [], ◌∷◌, map, ◌≡◌, ℕ, ◌-◌, ◌/◌, ◌^◌, ◌%◌, ◌<◌, length, get_or, eqb}
 use Rattle.std.proofs.Math.Option.{Option, none, some}
 use Rattle.card_entries.specs.declared.Slot.{Slot}
+use Rattle.span_steps.specs.declared.Tables.{Tables}
 use Rattle.base_lists.specs.Members.{keep}
 use Rattle.base_lists.specs.Numbers.{numbers}
 
@@ -30,6 +32,9 @@ pub record WalkTables : Type 0 where
 
 abbrev pub walk_tables : List ℕ → List ℕ → List ℕ → List ℕ → WalkTables
 walk_tables words twos starts slots = record { words = words; twos = twos; starts = starts; slots = slots }
+
+abbrev pub tables_of : Tables → WalkTables
+tables_of t = walk_tables t.words.now t.twos.now t.starts.now t.slots.now
 
 abbrev pub is_left : List ℕ → ℕ → Bool
 is_left marks j = eqb (get_or marks j 0) 0

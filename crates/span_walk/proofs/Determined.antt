@@ -15,14 +15,15 @@ use Rattle.build_method.proofs.RightLaws.{right_one, words_one}
 use Rattle.span_walk.proofs.walk.Kinds as walk_kinds
 use Rattle.span_walk.proofs.walk.Reads as walk_reads
 
-pub walk_one : (κs : Lfts 4) (a : Dens κs walk_kinds.ps) (r r' : (res_t walk_kinds.r κs).Denot)
-    (e e' : AtExit (ended_of 4 walk_kinds.ps walk_kinds.r) κs)
+pub walk_one : (κs : Lfts 3) (a : Dens κs walk_kinds.ps) (r r' : (res_t walk_kinds.r κs).Denot)
+    (e e' : AtExit (ended_of 3 walk_kinds.ps walk_kinds.r) κs)
     → walk_reads.Pre κs a
     → walk_reads.Post κs a r e
     → walk_reads.Post κs a r' e'
     → (r ≡ r')
-    × (GivesBuild r → take (length a.1.0.now) e.1.1.1.1.1.0.now
-    ≡ take (length a.1.0.now) e'.1.1.1.1.1.0.now)
+    × (GivesBuild r → take (length a.1.0.now.words.now) e.1.1.1.0.now
+    ≡ take (length a.1.0.now.words.now) e'.1.1.1.0.now)
 walk_one κs a r r' e e' pre p q =
-    let es = entries_in a.1.0.now a.1.1.0.now a.1.1.1.0.now in
+    let lists = a.1.0.now in
+    let es = entries_in lists.words.now lists.ones.now lists.twos.now in
     (right_one (λ o o'. means_one) p q, words_one (λ o o'. means_one) p q (entries_fit a.0 span es (hold_fits (hold_of_kind pre.0.hold refl))))

@@ -202,7 +202,7 @@ module _ {call : Call} (ready : Ready call) where
     -- the slots that may be tried
     pub open_start : Open call.tables marks i k these.hi
     open_start = record {
-      slots_below = record { ends = there; below = λ x from to. opened_entry (own_place inside) (get_or slots x 0) (x_in x from to) };
+      slots_below = record { in_order = next.within; ends = there; below = λ x from to. opened_entry (own_place inside) (get_or slots x 0) (x_in x from to) };
       free = λ h. able_left words marks i call.at.want (get_or slots k 0) (next.able_there h);
       alone = λ x from to. opened_alone (own_place inside) (get_or slots x 0) (x_in x from to);
       here = λ x from to. opened_in (own_place inside) (get_or slots x 0) (x_in x from to);
@@ -259,7 +259,7 @@ pub open_next : {tables : WalkTables} {marks₀ marks : List ℕ} {i w k hi k' :
     → Next (able tables.words marks i want) tables.words tables.slots w (between (k + 1) hi) k'
     → Open tables marks₀ i k' hi
 open_next {tables} {marks₀} {marks} {i} {k'} want o e n = record {
-  slots_below = record { ends = o.slots_below.ends; below = λ x from to. o.slots_below.below x (omega (arith, n.on)) to };
+  slots_below = record { in_order = n.within; ends = o.slots_below.ends; below = λ x from to. o.slots_below.below x (omega (arith, n.on)) to };
   free = λ h. rw e at (able_left tables.words marks i want (get_or tables.slots k' 0) (n.able_there h));
   alone = λ x from to. o.alone x (omega (arith, n.on)) to;
   here = λ x from to. o.here x (omega (arith, n.on)) to;
@@ -310,6 +310,8 @@ module _ {call : Call} {now : Noted} {tally : Tally} {below : Walking} {kept : L
     numbered = ready.numbered;
     inside = omega (arith, one_on.place);
     within = omega (arith, counted.count, one_on.budget);
+    few_builds = ⊎_elim (λ e. omega (arith, counted.last e)) (λ n. omega (arith, counted.other (omega arith)))
+        (same_or_not (call.at.i + 1) (length call.tables.words));
     going = λ h. omega (arith, counted.other (omega (arith, one_on.place)));
     stands = record {
       past = λ x low left_is. let n = other x left_is in
@@ -379,3 +381,29 @@ module _ {call : Call} {now : Noted} {tally : Tally} {below : Walking} {kept : L
       along = λ reader r s shown. let a = held.along reader r s shown in
           record { so_far = turn_to call reader a.so_far e; shows = turned s a.shows; goes_on = a.goes_on };
     }
+
+-- a turn of the loop, at slot k: the call below it can be made, and after that the run has come a turn further
+module _ {call : Call} {now : Noted} {tally : Tally} {below : Walking} {kept : List ℕ} {k hi e : ℕ}
+    (ready : Ready call)
+    (o : Looping call now tally k hi)
+    (h : k < hi)
+    (entry : e ≡ get_or call.tables.slots k 0)
+    (room : tally.placed ≡ call.at.budget → ⊥)
+    (kept_is : kept ≡ cond (eqb tally.builds 0) (set now.first call.at.i (get_or call.tables.words e 0)) now.first)
+    (one_on : OneOn call.at below)
+    (want_is : below.want ≡ bit_and (get_or call.tables.words e 0) call.at.mask)
+    (counted : PlacedOne call.at.i (length call.tables.words) tally below.tally) where
+  abbrev turning : Turning call now tally k hi e
+  turning = looping_turn o h entry
+
+  left_over : tally.placed < call.at.budget
+  left_over = omega (arith, o.held.within, room)
+
+  pub looping_below : Ready (calling call.tables below (noted (set now.marks e 1) kept))
+  looping_below =
+      ready_below ready turning.held o.inside turning.low turning.free o.going left_over kept_is one_on want_is counted turning.alone turning.here
+
+  pub looping_over : {after : Noted} {more : Tally} → WentOn (calling call.tables below (noted (set now.marks e 1) kept)) after more
+      → Held call (noted (set after.marks e 0) after.first) more (tries_at call (get_or call.tables.words e 0) (k + 1) hi)
+  looping_over went =
+      held_turn ready turning.held o.inside turning.low turning.free o.going left_over kept_is one_on want_is counted went

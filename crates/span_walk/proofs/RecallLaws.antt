@@ -16,7 +16,7 @@ use Rattle.span_theory.proofs.Indices.{numbers_in}
 use Rattle.span_memory.specs.declared.tally.Tally.{Tally}
 use Rattle.span_memory.specs.Tally.{PlacedMore}
 use Rattle.span_memory.specs.Memory as memory
-use Rattle.span_memory.specs.Memory.{bits_of, KeyOf, KeyOrNone, Told, Stored}
+use Rattle.span_memory.specs.Memory.{bits_of, KeyOf, KeyOf, Told, Stored}
 use Rattle.span_memory.proofs.KeyLaws.{bits_same, key_tells}
 use Rattle.span_tables.specs.Prepared.{list_at}
 use Rattle.span_steps.specs.Steps.{WalkTables, is_left, span_at, left}
@@ -73,10 +73,6 @@ recalls_none tables mask e = rw e record {
   each = λ s h marks i want st k. absurd (omega (arith, k.made, get_or-replicate {A = ℕ} memory.memory_length (2 * s) 0 0 (omega arith)));
 }
 
--- the mask by another name
-pub recalls_mask : {tables : WalkTables} {mask same : ℕ} {known : List ℕ} → mask ≡ same → Recalls tables mask known → Recalls tables same known
-recalls_mask e recalls = rw e at recalls
-
 -- a run that has come so far, whatever it has found
 start_shows : (s n : ℕ) (path first : List ℕ) → s < 2 → take (length path) first ≡ path → (r : Run) × Shows path n s first r
 start_shows zero n path first h e = (searching n, none_yet e)
@@ -111,11 +107,11 @@ module _ {call : Call} (ready : Ready call) (inside : call.at.i < length call.ta
   abbrev own_list : List ℕ
   own_list = list_at call.tables.starts call.tables.slots i
 
-  ends_told : {known : List ℕ} {key size : ℕ} → Recalls call.tables mask known → KeyOrNone marks own_list i want key → Told known key size
+  ends_told : {known : List ℕ} {key size : ℕ} → Recalls call.tables mask known → KeyOf marks own_list i want key → Told known key size
       → Ends call.tables mask marks i want size
   ends_told recalls keyed told =
       rw told.size_is at
-      (recalls.each told.cell told.inside marks i want ready.stands (rw told.key_is (keyed.is_key told.some)))
+      (recalls.each told.cell told.inside marks i want ready.stands (rw told.key_is keyed))
 
   ends_went : {size : ℕ} {after : Tally} → Ends call.tables mask marks i want size → PlacedMore size budget before after
       → WentOn call call.notes after
@@ -155,7 +151,7 @@ module _ {call : Call} (ready : Ready call) (inside : call.at.i < length call.ta
           (more.fits h).0 (more.fits h).1
 
   -- what the memory tells is what the walk would come to
-  pub told_went : {known : List ℕ} {key size : ℕ} {after : Tally} → Recalls call.tables mask known → KeyOrNone marks own_list i want key
+  pub told_went : {known : List ℕ} {key size : ℕ} {after : Tally} → Recalls call.tables mask known → KeyOf marks own_list i want key
       → Told known key size
       → PlacedMore size budget before after
       → WentOn call call.notes after
@@ -197,7 +193,7 @@ module _ {call : Call} (ready : Ready call) (inside : call.at.i < length call.ta
           }
 
   pub recalls_stored : {known known' : List ℕ} {key : ℕ} {now : Noted} {after : Tally} → Recalls call.tables mask known
-      → KeyOrNone marks own_list i want key
+      → KeyOf marks own_list i want key
       → WentOn call now after
       → Stored known known' key before after
       → Recalls call.tables mask known'
@@ -205,6 +201,6 @@ module _ {call : Call} (ready : Ready call) (inside : call.at.i < length call.ta
     all = stored.all ∙ recalls.all;
     each = λ s h marks° i° want° st k. ⊎_elim
         (λ q. rw q.1 (recalls.each s h marks° i° want° st (rw q.0 at k)))
-        (λ q. key_ends inside ready.stands st (keyed.is_key q.1) (rw q.2 at k) (went_ends went q.0 q.3))
+        (λ q. key_ends inside ready.stands st keyed (rw q.2 at k) (went_ends went q.0 q.3))
         (stored.each s h);
   }

@@ -64,6 +64,7 @@ module _ {l : ℕ} {words ones twos starts slots marks : List ℕ} (card : SpanL
     numbered = omega (arith, few_entries card);
     inside = omega arith;
     within = omega arith;
+    few_builds = omega arith;
     going = λ h. omega arith;
     stands = record {
       past = λ k h g. omega arith;

@@ -71,6 +71,7 @@ pub record Ready (call : Call) : Type 0 where
   pub numbered : length call.tables.words < most_numbered
   pub inside : call.at.i ≤ length call.tables.words
   pub within : call.at.tally.placed ≤ call.at.budget
+  pub few_builds : call.at.tally.builds ≤ 2
   pub going : call.at.i < length call.tables.words → call.at.tally.builds < 2
   pub stands : Stands call.tables call.notes.marks call.at.i
 

@@ -23,12 +23,14 @@ ahead ok words slots k hi =
 
 -- the slots from lo up to hi are there, and have numbers below m
 pub record SlotsBelow (slots : List ℕ) (lo hi m : ℕ) : Type 0 where
+  pub in_order : lo ≤ hi
   pub ends : hi ≤ length slots
   pub below : (k : ℕ) → lo ≤ k → k < hi → get_or slots k 0 < m
 
 -- what `due` promises: of all the slots of the place i, these may be tried
 pub record Opened (slots twos marks : List ℕ) (i : ℕ) (all these : Slots) : Type 0 where
   pub from : all.lo ≤ these.lo
+  pub in_order : these.lo ≤ these.hi
   pub to : these.hi ≤ all.hi
   pub open_part : part slots these.lo these.hi
       ≡ opened (keep (is_due twos marks i) (part slots all.lo all.hi)) (part slots all.lo all.hi)
@@ -36,6 +38,7 @@ pub record Opened (slots twos marks : List ℕ) (i : ℕ) (all these : Slots) : 
 -- what `next` promises: nothing of the slots is tried before r, where w was the last word tried, and what stands at r is tried
 pub record Next (ok : ℕ → Bool) (words slots : List ℕ) (w : ℕ) (among : Slots) (r : ℕ) : Type 0 where
   pub on : among.lo ≤ r
+  pub within : r ≤ among.hi
   pub able_there : r < among.hi → ok (get_or slots r 0) ≡ true
   pub rest : tries ok (λ j. get_or words j 0) w (part slots among.lo among.hi) ≡ ahead ok words slots r among.hi
 

@@ -33,10 +33,19 @@ pub fn three(to: &mut impl Write, name: &[u8], x: usize, y: usize, z: usize) {
 
 // The hash of bytes, of an output after a call.
 pub fn hash(to: &mut impl Write, bytes: &[u8]) {
-    number(to, hashes::of_bytes(bytes))
+    number(to, hashes::of(bytes))
 }
 
 // A refusal: its number and its place.
 pub fn refused(to: &mut impl Write, r: Refusal) {
-    two(to, b"refused", r.number, r.place)
+    two(to, b"refused", r.number(), r.place())
+}
+
+// What an operation answers that writes, a length after a name or the refusal, and what the output holds afterwards.
+pub fn written(to: &mut impl Write, name: &[u8], r: Result<usize, Refusal>, out: &[u8]) {
+    match r {
+        Ok(n) => one(to, name, n),
+        Err(r) => refused(to, r),
+    }
+    hash(to, out)
 }

@@ -6,7 +6,6 @@ use Prim.Native.Nat.{ℕ, ◌+◌, ◌*◌, ◌/◌, ◌≤◌, ◌<◌}
 use native.Mathlib.Omega.{arith}
 use lib.ListN.{length, drop}
 use borrow.Author.Tests.{le-leb, lt-leb}
-use Rattle.base_answers.specs.declared.Refusal.{Refusal}
 use Rattle.base_answers.specs.Numbers.{Room}
 use Rattle.base_answers.specs.Answer.{given, refused}
 use Rattle.base_lists.specs.Row.{row}
@@ -25,7 +24,6 @@ use Rattle.card_reader.proofs.AdmittedLaws.{its_reads, its_told, admitted_size}
 use Rattle.text_probes.specs.Line.{line_text, most_line, is_small}
 use Rattle.text_probes.proofs.LengthLaws.{line_few}
 use Rattle.build_sequence.proofs.LetterLaws.{length_letters}
-use Rattle.text_export.specs.declared.Exported.TheVariants.{Text, Refused}
 use Rattle.text_export.specs.Exporting.{listed_for, text_of, list_of, exporting, Exports}
 use Rattle.text_export.proofs.AdmittedLines.{back, line_fine}
 use Rattle.text_export.proofs.LoopLaws.{line_at}
@@ -73,12 +71,12 @@ module _ (limit : ℕ) (card : List ℕ) {f : Format} (admitted : admission limi
 
 module _ (card : List ℕ) (of_bytes : AreBytes card) {f : Format} (admitted : admission most_entries card ≡ given f) {before : List ℕ} {n : ℕ}
     (e : n ≡ length (list_of card)) where
-  pub export_no_room : length before < n → Exports most_entries card before (Refused (record { number = Room; place = 0 })) before
+  pub export_no_room : length before < n → Exports most_entries card before (refused Room 0) before
   export_no_room h =
       let says = list_no_room most_entries card admitted (length before) (omega arith) in
       record { of_bytes = of_bytes; answer = sym says; bytes = rw says }
 
-  pub export_text : {part : List ℕ} → n ≤ length before → part ≡ list_of card → Exports most_entries card before (Text n) (part ++ drop n before)
+  pub export_text : {part : List ℕ} → n ≤ length before → part ≡ list_of card → Exports most_entries card before (given n) (part ++ drop n before)
   export_text h is =
       let says : exporting most_entries card (length before) ≡ given n =
       list_given most_entries card admitted (length before) (omega arith) ∙ ap given (sym e) in
@@ -94,8 +92,8 @@ pub list_long : (limit : ℕ) (card : List ℕ) (room : ℕ) {n : ℕ} → expor
 unfolding exporting
 list_long limit card room e = sym (first_value _ _ _ e)
 
-pub export_refused : {card before : List ℕ} {n : Refusal} → AreBytes card → admission most_entries card ≡ refused n.number n.place
-    → Exports most_entries card before (Refused n) before
+pub export_refused : {card before : List ℕ} {n p : ℕ} → AreBytes card → admission most_entries card ≡ refused n p
+    → Exports most_entries card before (refused n p) before
 export_refused {card} {before} of_bytes e =
     let says = card_refused most_entries card (length before) e in
     record { of_bytes = of_bytes; answer = sym says; bytes = rw says }

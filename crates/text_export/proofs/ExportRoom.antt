@@ -12,12 +12,10 @@ use Rattle.card_reader.specs.Reading.{reading_order}
 use Rattle.card_reader.specs.Fetching.{admission}
 use Rattle.card_reader.proofs.FetchingLaws.{admission_given, admission_refused}
 use Rattle.card_reader.proofs.RefusalNumbers.{reader_below}
-use Rattle.card_writer.specs.declared.Written.TheVariants.{Card}
 use Rattle.text_probes.specs.Line.{most_number}
 use Rattle.text_import.specs.Importing.{card_in, importing, Imports}
 use Rattle.text_import.proofs.Imported.{imported_short}
-use Rattle.text_export.specs.declared.Exported.{Exported}
-use Rattle.text_export.specs.Exporting.{list_of, exporting, list_room, says_exported, Exports}
+use Rattle.text_export.specs.Exporting.{list_of, exporting, list_room, Exports}
 use Rattle.text_export.proofs.RoundTrip.{listed_imports}
 use Rattle.text_export.proofs.ExportLaws.{list_given, card_refused}
 
@@ -27,18 +25,18 @@ module _ (limit : ℕ) (few : limit ≤ most_number) (card : List ℕ) (admitted
   list_short =
       let says = listed_imports limit few card admitted (length card) (omega arith) in
       let after : List ℕ = output_after (card_in (list_of card)) card (importing limit (list_of card) (length card)) in
-      let did : Imports limit (list_of card) card (Card (length card)) after = record { answer = sym says; bytes = refl } in
+      let did : Imports limit (list_of card) card (given (length card)) after = record { answer = sym says; bytes = refl } in
       imported_short did refl
 
   -- an admitted card is exported, where there is room for its list, and so where there is room for every list
-  pub export_given : {before after : List ℕ} {r : Exported} → Exports limit card before r after → length (list_of card) ≤ length before
-      → (says_exported r ≡ given (length (list_of card))) × (after ≡ list_of card ++ drop (length (list_of card)) before)
+  pub export_given : {before after : List ℕ} {r : Answer ℕ} → Exports limit card before r after → length (list_of card) ≤ length before
+      → (r ≡ given (length (list_of card))) × (after ≡ list_of card ++ drop (length (list_of card)) before)
   export_given {before} did room =
       let says = list_given limit card admitted (length before) room in
       (did.answer ∙ says, rw says at did.bytes)
 
-  pub export_room : {before after : List ℕ} {r : Exported} → Exports limit card before r after → list_room limit ≤ length before
-      → says_exported r ≡ given (length (list_of card))
+  pub export_room : {before after : List ℕ} {r : Answer ℕ} → Exports limit card before r after → list_room limit ≤ length before
+      → r ≡ given (length (list_of card))
   export_room did room = (export_given did (omega (arith, list_short))).0
 
 -- so that with it 12 never comes

@@ -4,7 +4,7 @@ use mathlib.Core.Logic.{◌⊎◌}
 use mathlib.Core.List.{List, ◌++◌}
 use Prim.Native.Nat.{ℕ, ◌≤◌, ◌<◌}
 use lib.ListN.{length, take, drop}
-use Rattle.base_answers.specs.Answer.{given}
+use Rattle.base_answers.specs.Answer.{Answer, given}
 use Rattle.card_entries.specs.declared.Format.{Format}
 use Rattle.card_entries.specs.Fault.{pair}
 use Rattle.card_entries.specs.Slot.{slot_from}
@@ -14,8 +14,6 @@ use Rattle.card_layout.proofs.CardLaws.{card_slot, card_same}
 use Rattle.card_reader.specs.Fetching.{admission}
 use Rattle.card_entries.specs.Hold.{format_for}
 use Rattle.card_reader.proofs.AdmittedLaws.{its_words, its_ones, its_twos, format_same, slot_same}
-use Rattle.card_writer.specs.declared.Written.{Written}
-use Rattle.card_writer.specs.Writing.{says_written}
 use Rattle.card_writer.proofs.RoundTrip.{read_back}
 use Rattle.text_probes.specs.Line.{most_number}
 use Rattle.text_probes.specs.Lines.{lines_of, line_in}
@@ -24,8 +22,7 @@ use Rattle.text_import.specs.Importing.{kind_in, letters_in, words_in, ones_in, 
 use Rattle.text_import.proofs.SoundCard.{card_in_lem, told_in}
 use Rattle.text_import.proofs.ImportingLaws.{card_long}
 use Rattle.text_import.proofs.Imported.{imported_sound, imported_writes, imported_card}
-use Rattle.text_export.specs.declared.Exported.{Exported}
-use Rattle.text_export.specs.Exporting.{list_of, says_exported, Exports}
+use Rattle.text_export.specs.Exporting.{list_of, Exports}
 use Rattle.text_export.specs.Back.{back_of}
 use Rattle.text_export.proofs.RoundTrip.{listed_card, listed_imports, exported_list}
 use Rattle.text_export.proofs.SpelledOut.{list_again, own_list}
@@ -47,8 +44,8 @@ made_again limit text admitted =
     ∙ card_same format (slot_of card) slots (λ e h. ap (λ (c : List ℕ). slot_of c e) (card_in_lem text) ∙ card_slot format slots e h)
     ∙ sym (card_in_lem text)
 
-module _ {limit : ℕ} (few : limit ≤ most_number) {text before after : List ℕ} {r : Written} {n : ℕ}
-    (did : Imports limit text before r after) (said : says_written r ≡ given n) where
+module _ {limit : ℕ} (few : limit ≤ most_number) {text before after : List ℕ} {r : Answer ℕ} {n : ℕ}
+    (did : Imports limit text before r after) (said : r ≡ given n) where
   admitted : admission limit (card_in text) ≡ given (told_by (card_in text))
   admitted = rw (imported_card did said) at (read_back (imported_writes did said) said).admitted ∙ ap given (sym (told_in text))
 
@@ -58,16 +55,16 @@ module _ {limit : ℕ} (few : limit ≤ most_number) {text before after : List �
   listed : list_of (card_in text) ≡ back_of text
   listed = list_again text (imported_sound did said)
 
-  module _ {out end : List ℕ} {q : Exported} (back : Exports limit (take n after) out q end) where
+  module _ {out end : List ℕ} {q : Answer ℕ} (back : Exports limit (take n after) out q end) where
     exports : Exports limit (card_in text) out q end
     exports = rw (imported_card did said) at back
 
     -- the card of an imported list is exported to the list, with each bare p of a span list as p-p
     pub imported_exports : length (back_of text) ≤ length out
-        → (says_exported q ≡ given (length (back_of text))) × (end ≡ back_of text ++ drop (length (back_of text)) out)
+        → (q ≡ given (length (back_of text))) × (end ≡ back_of text ++ drop (length (back_of text)) out)
     imported_exports room = rw listed at (export_given limit few (card_in text) admitted exports (rw listed room))
 
-    module _ {k : ℕ} (told : says_exported q ≡ given k) where
+    module _ {k : ℕ} (told : q ≡ given k) where
       back_list : take k end ≡ list_of (card_in text)
       back_list = exported_list limit few (card_in text) exports told
 
@@ -76,8 +73,8 @@ module _ {limit : ℕ} (few : limit ≤ most_number) {text before after : List �
       own_bytes_lem h = back_list ∙ own_list text (imported_sound did said) h
 
       -- and it is imported to the same card
-      pub imports_again : {room last : List ℕ} {w : Written} → Imports limit (take k end) room w last → n ≤ length room
-          → (says_written w ≡ given n) × (last ≡ take n after ++ drop n room)
+      pub imports_again : {room last : List ℕ} {w : Answer ℕ} → Imports limit (take k end) room w last → n ≤ length room
+          → (w ≡ given n) × (last ≡ take n after ++ drop n room)
       imports_again {room} {last} again h =
           let own = rw back_list at again in
           let answer : importing limit (list_of (card_in text)) (length room) ≡ given n =

@@ -7,11 +7,11 @@ use native.Mathlib.Omega.{arith}
 use lib.ListN.{length, length-append}
 use Rattle.base_lists.specs.Row.{row}
 use Rattle.base_lists.proofs.RowLaws.{row_none, row_more}
-use Rattle.base_lists.proofs.PutLaws.{put_none, put_whole}
+use Rattle.base_lists.proofs.PutLaws.{put_whole}
 use Rattle.card_entries.specs.declared.Format.{Format}
 use Rattle.card_layout.specs.Layout.{slot_of}
 use Rattle.base_text.specs.Putting.{Put}
-use Rattle.base_text.proofs.PuttingLaws.{length_put, put_then, put_as}
+use Rattle.base_text.proofs.PuttingLaws.{length_put, put_nothing, put_then, put_as}
 use Rattle.text_probes.specs.Line.{Line, line_text, most_line}
 use Rattle.text_export.specs.Exporting.{line_for, text_of}
 
@@ -52,51 +52,46 @@ line_at f card e = line_for f.kind f.l (slot_of card e)
 
 -- the lines so far, counted
 pub record Counted (f : Format) (card : List ℕ) (n e : ℕ) : Type 0 where
-  pub within : e ≤ f.m
   pub counts : n ≡ length (text_of (row (line_at f card) 0 e))
   pub few : n ≤ most_line * e
 
 -- and put
-pub record Lines (f : Format) (card out₀ out : List ℕ) (at e : ℕ) : Type 0 where
-  pub within : e ≤ f.m
-  pub put : Put (text_of (row (line_at f card) 0 e)) 0 out₀ at out
+abbrev pub Lines : Format → List ℕ → List ℕ → List ℕ → ℕ → ℕ → Type 0
+Lines f card out₀ out at e = Put (text_of (row (line_at f card) 0 e)) 0 out₀ at out
 
 module _ (f : Format) (card : List ℕ) where
-  pub counted_none : Counted f card 0 0
-  counted_none = record { within = omega arith; counts = sym (ap (λ (xs : List Line). length (text_of xs)) (row_none (line_at f card) 0)); few = omega arith }
+  none : text_of (row (line_at f card) 0 0) ≡ []
+  none = ap text_of (row_none (line_at f card) 0)
 
-  pub counted_turn : {n e k : ℕ} → Counted f card n e → e < f.m → k ≡ length (line_text (line_at f card e)) → k ≤ most_line
+  pub counted_none : Counted f card 0 0
+  counted_none = record { counts = sym (ap length none); few = omega arith }
+
+  pub counted_turn : {n e k : ℕ} → Counted f card n e → k ≡ length (line_text (line_at f card e)) → k ≤ most_line
       → Counted f card (n + k) (e + 1)
-  counted_turn {n} {e} {k} so_far h is most = record {
-    within = omega arith;
-    counts = omega (arith, so_far.counts, is, ap length (text_more (line_at f card) e), length-append (text_of (row (line_at f card) 0 e)) (line_text (line_at f card e)));
+  counted_turn {n} {e} {k} so_far is most = record {
+    counts =
+        omega (
+          arith,
+          so_far.counts,
+          is,
+          ap length (text_more (line_at f card) e),
+          length-append (text_of (row (line_at f card) 0 e)) (line_text (line_at f card e)),
+        );
     few = omega (arith, so_far.few);
   }
 
   pub lines_none : (out : List ℕ) → Lines f card out out 0 0
-  lines_none out =
-      let none : text_of (row (line_at f card) 0 0) ≡ [] = ap text_of (row_none (line_at f card) 0) in
-      record {
-        within = omega arith;
-        put = rw none (record { room = omega arith; ends = refl; stands = sym (put_none out 0) });
-      }
+  lines_none out = rw none (put_nothing out 0 (omega arith))
 
-  pub lines_turn : {out₀ out after : List ℕ} {at e to : ℕ} → Lines f card out₀ out at e → e < f.m
-      → Put (line_text (line_at f card e)) at out to after → Lines f card out₀ after to (e + 1)
-  lines_turn {e} so_far h put = record {
-    within = omega arith;
-    put = put_as (put_then so_far.put put) (sym (text_more (line_at f card) e));
-  }
+  pub lines_turn : (e : ℕ) {out₀ out after : List ℕ} {at to : ℕ} → Lines f card out₀ out at e → Put (line_text (line_at f card e)) at out to after
+      → Lines f card out₀ after to (e + 1)
+  lines_turn e so_far put = put_as (put_then so_far put) (sym (text_more (line_at f card) e))
 
-  pub lines_room : {out₀ out : List ℕ} {at e : ℕ} → Lines f card out₀ out at e → e < f.m
+  pub lines_room : (e : ℕ) {out₀ out : List ℕ} {at : ℕ} → Lines f card out₀ out at e → e < f.m
       → length out₀ ≡ length (text_of (row (line_at f card) 0 f.m))
       → at + length (line_text (line_at f card e)) ≤ length out
-  lines_room {e} so_far h whole =
-      omega (arith, so_far.put.ends, length_put so_far.put, text_room_lem (line_at f card) e f.m h)
+  lines_room e so_far h whole = omega (arith, so_far.ends, length_put so_far, text_room_lem (line_at f card) e f.m h)
 
-  pub lines_all : {out₀ out : List ℕ} {at e : ℕ} → Lines f card out₀ out at e → f.m ≤ e
-      → length out₀ ≡ length (text_of (row (line_at f card) 0 f.m)) → out ≡ text_of (row (line_at f card) 0 f.m)
-  lines_all {out₀} {e} so_far h whole =
-      let same : e ≡ f.m = omega (arith, so_far.within) in
-      let put = rw same at so_far.put in
-      put.stands ∙ put_whole out₀ (text_of (row (line_at f card) 0 f.m)) (sym whole)
+  pub lines_all : {out₀ out : List ℕ} {at : ℕ} → Lines f card out₀ out at f.m → length out₀ ≡ length (text_of (row (line_at f card) 0 f.m))
+      → out ≡ text_of (row (line_at f card) 0 f.m)
+  lines_all {out₀} so_far whole = so_far.stands ∙ put_whole out₀ (text_of (row (line_at f card) 0 f.m)) (sym whole)

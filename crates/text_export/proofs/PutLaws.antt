@@ -1,20 +1,28 @@
 -- Laws of the parts of a line that this crate's proofs cite. Assumes nothing.
-use mathlib.Core.Path.{◌≡◌, sym, ap, ◌∙◌}
-use mathlib.Core.Bool.{true, ◌&&◌}
+use mathlib.Core.Path.{◌≡◌, refl, sym, ap, ◌∙◌}
+use mathlib.Core.Bool.{Bool, true, false, ◌&&◌, cond}
 use mathlib.Core.List.{List, [], ◌∷◌, ◌++◌, map, append-nil}
+use mathlib.Core.Logic.{by_cases}
 use Prim.Native.Nat.{ℕ, suc, ◌+◌, ◌-◌, ◌/◌, ◌%◌, ◌≤◌, ◌<◌}
 use native.Mathlib.Omega.{arith}
-use lib.ListN.{length, set, length-map, length-append}
+use native.Mathlib.Decide.{ℕ_discrete}
+use lib.ListN.{length, set, length-map}
 use lib.Seq.{append_snoc}
-use lib.Dec.{leb}
+use lib.Dec.{leb, eqb}
 use borrow.Author.Tests.{eq-eqb, ne_eqb, leb-true}
 use Rattle.base_lists.proofs.TestLaws.{both}
 use Rattle.base_letters.specs.Letters.{letter_of}
 use Rattle.card_entries.specs.declared.Slot.{Slot}
+use Rattle.card_entries.specs.declared.Places.{Places}
+use Rattle.card_entries.specs.declared.Places.TheVariants.{One, Two as Both, Span}
+use Rattle.card_entries.specs.declared.Entry.{Entry}
+use Rattle.card_entries.specs.Entry.{places_of, entry_of}
 use Rattle.card_entries.specs.Fault.{span, no_place}
+use Rattle.card_entries.proofs.Allowed.{entry_places}
+use Rattle.card_entries.proofs.Laws.{span_places, one_place, two_places}
 use Rattle.build_sequence.specs.Build.{letters_of}
 use Rattle.build_sequence.proofs.LetterLaws.{length_letters}
-use Rattle.base_text.specs.Text.{ascii, decimal}
+use Rattle.base_text.specs.Text.{ascii}
 use Rattle.base_text.specs.Putting.{Put}
 use Rattle.base_text.proofs.PuttingLaws.{put_nothing, put_then, put_before, put_as}
 use Rattle.text_probes.specs.declared.line.Marked.{Marked}
@@ -25,6 +33,20 @@ use Rattle.text_probes.proofs.LengthLaws.{line_long as text-long}
 use Rattle.text_export.specs.Exporting.{listed_for, line_for}
 
 -- ---- what is listed
+
+both_small : {p q : ℕ} → (leb p most_number && leb q most_number) ≡ true → (p ≤ most_number) × (q ≤ most_number)
+both_small {p} {q} h = let each = both (leb p most_number) (leb q most_number) h in (leb-true p most_number each.0, leb-true q most_number each.1)
+
+-- what is listed of such places, and that each number fits
+abbrev pub listed_as : Places → Marked
+listed_as (One p) = Bare (p + 1)
+listed_as (Both p q) = Two (p + 1) (q + 1)
+listed_as (Span p q) = Run (p + 1) (q + 1)
+
+abbrev pub Few : Places → Type 0
+Few (One p) = p + 1 ≤ most_number
+Few (Both p q) = (p + 1 ≤ most_number) × (q + 1 ≤ most_number)
+Few (Span p q) = (p + 1 ≤ most_number) × (q + 1 ≤ most_number)
 
 module _ (kind : ℕ) (s : Slot) where
   pub for_span : kind ≡ span → Run (s.one + 1) (s.two + 1) ≡ listed_for kind s
@@ -39,25 +61,26 @@ module _ (kind : ℕ) (s : Slot) where
   unfolding listed_for
   for_two n e = rw (ne_eqb kind span n, ne_eqb s.two no_place e)
 
-both_small : {p q : ℕ} → (leb p most_number && leb q most_number) ≡ true → (p ≤ most_number) × (q ≤ most_number)
-both_small {p} {q} h = let each = both (leb p most_number) (leb q most_number) h in (leb-true p most_number each.0, leb-true q most_number each.1)
+module _ (kind : ℕ) (s : Slot) {e : Entry} (is : e ≡ entry_of kind s) {y : Places} (of : e.places ≡ y) where
+  stands : y ≡ places_of kind s.one s.two
+  stands = sym of ∙ ap (λ (x : Entry). x.places) is ∙ entry_places kind s
 
--- the places that are listed fit
-module _ (kind : ℕ) (s : Slot) (small : is_small (listed_for kind s) ≡ true) where
-  pub small_span : kind ≡ span → (s.one + 1 ≤ most_number) × (s.two + 1 ≤ most_number)
-  small_span e = both_small (ap is_small (for_span kind s e) ∙ small)
+  pub listed_so : listed_as y ≡ listed_for kind s
+  listed_so =
+      by_cases (ℕ_discrete kind span) (λ k. ap listed_as (stands ∙ sym (span_places kind s.one s.two k)) ∙ for_span kind s k) (λ k.
+      by_cases (ℕ_discrete s.two no_place) (λ n. ap listed_as (stands ∙ sym (one_place kind s.one s.two k n)) ∙ for_one kind s k n)
+      (λ n. ap listed_as (stands ∙ sym (two_places kind s.one s.two k n)) ∙ for_two kind s k n))
 
-  pub small_one : (kind ≡ span → ⊥) → s.two ≡ no_place → s.one + 1 ≤ most_number
-  small_one n e = leb-true (s.one + 1) most_number (ap is_small (for_one kind s n e) ∙ small)
-
-  pub small_two : (kind ≡ span → ⊥) → (s.two ≡ no_place → ⊥) → (s.one + 1 ≤ most_number) × (s.two + 1 ≤ most_number)
-  small_two n e = both_small (ap is_small (for_two kind s n e) ∙ small)
+  -- the places that are listed fit
+  pub few_so : is_small (listed_for kind s) ≡ true → Few y
+  few_so small = go y (ap is_small listed_so ∙ small)
+    where
+      go : (y : Places) → is_small (listed_as y) ≡ true → Few y
+      go (One p) h = leb-true (p + 1) most_number h
+      go (Both p q) h = both_small h
+      go (Span p q) h = both_small h
 
 -- ---- how long
-
--- two numbers, with a mark of one byte between them
-pub both_long : (p q : ℕ) (mark : List ℕ) → length mark ≡ 1 → length (decimal p) + 1 + length (decimal q) ≡ length (decimal p ++ (mark ++ decimal q))
-both_long p q mark one = omega (arith, length-append (decimal p) (mark ++ decimal q), length-append mark (decimal q))
 
 pub word_long : (l w : ℕ) → length (map letter_of (letters_of l w)) ≡ l
 word_long l w = length-map (letters_of l w) letter_of ∙ length_letters l w
@@ -91,12 +114,6 @@ module _ (l w at : ℕ) (before : List ℕ) where
           whole = sym (append_snoc (letters_of k (v / 4)) (v % 4) so_far.last) ∙ rw left at so_far.whole;
           put = put_before so_far.put (letter_of (v % 4)) (omega arith);
         }
-
-    pub letters_all : i ≤ at → Put (map letter_of (letters_of l w)) at before (at + l) out
-    letters_all h =
-        let here : i ≡ at = omega (arith, so_far.started) in
-        let none : i - at ≡ 0 = omega arith in
-        rw here at (put_as so_far.put (ap (map letter_of) (rw none at so_far.whole)))
 
 -- ---- a line
 

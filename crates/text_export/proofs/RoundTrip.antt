@@ -5,7 +5,7 @@ use mathlib.Core.List.{List, ◌++◌}
 use Prim.Native.Nat.{ℕ, ◌+◌, ◌≤◌, ◌<◌}
 use native.Mathlib.Omega.{arith}
 use lib.ListN.{length, take, drop}
-use Rattle.base_answers.specs.Answer.{given}
+use Rattle.base_answers.specs.Answer.{Answer, given}
 use Rattle.base_answers.proofs.Laws.{first_both}
 use Rattle.card_entries.specs.Slot.{slot_from}
 use Rattle.card_entries.specs.Fault.{span}
@@ -14,7 +14,6 @@ use Rattle.card_layout.specs.Card.{card_of}
 use Rattle.card_reader.specs.Fetching.{admission}
 use Rattle.card_entries.specs.Hold.{format_for}
 use Rattle.card_reader.proofs.AdmittedLaws.{its_words, its_ones, its_twos, length_its, admitted_size, its_hold}
-use Rattle.card_writer.specs.Writing.{says_written}
 use Rattle.card_writer.proofs.WritingLaws.{card_given}
 use Rattle.text_probes.specs.declared.line.Marked.TheVariants.{Run}
 use Rattle.text_probes.specs.Line.{Line, most_number}
@@ -22,14 +21,12 @@ use Rattle.text_probes.specs.Lines.{line_in}
 use Rattle.text_import.specs.Importing.{card_in, importing, Imports}
 use Rattle.text_import.proofs.SoundCard.{card_in_lem}
 use Rattle.text_import.proofs.ImportingLaws.{importing_writes}
-use Rattle.text_export.specs.Exporting.{list_of, exporting, says_exported, Exports}
+use Rattle.text_export.specs.Exporting.{list_of, exporting, Exports}
 use lib.Seq.{take_at}
 use Rattle.card_block.specs.Bytes.{AreBytes}
 use Rattle.card_reader.specs.Reading.{reading_order}
 use Rattle.card_reader.proofs.FetchingLaws.{admission_given}
-use Rattle.card_writer.specs.declared.Written.{Written}
 use Rattle.card_writer.proofs.AgainLaws.{again_card}
-use Rattle.text_export.specs.declared.Exported.{Exported}
 use Rattle.text_export.proofs.ListBack.{listed_sound, line_listed, listed_stands}
 use Rattle.text_export.proofs.PutLaws.{for_span}
 use Rattle.text_export.proofs.ExportLaws.{list_long}
@@ -66,8 +63,8 @@ module _ (limit : ℕ) (few : limit ≤ most_number) (card : List ℕ) (admitted
 
 -- ---- by the contracts: what `export` wrote, imported
 
-module _ (limit : ℕ) (few : limit ≤ most_number) (card : List ℕ) {before after : List ℕ} {r : Exported} {n : ℕ}
-    (did : Exports limit card before r after) (said : says_exported r ≡ given n) where
+module _ (limit : ℕ) (few : limit ≤ most_number) (card : List ℕ) {before after : List ℕ} {r : Answer ℕ} {n : ℕ}
+    (did : Exports limit card before r after) (said : r ≡ given n) where
   exported_admitted : admission limit card ≡ given (told_by card)
   unfolding exporting
   exported_admitted = admission_given limit card (first_both _ _ (reading_order limit card) _ (sym did.answer ∙ said)).0
@@ -90,8 +87,8 @@ module _ (limit : ℕ) (few : limit ≤ most_number) (card : List ℕ) {before a
       ∙ sym (for_span (told_by card).kind (slot_of card e) kind)
 
   -- "must import to the same card"
-  pub exported_imports : {room end : List ℕ} {q : Written} → Imports limit (take n after) room q end → length card ≤ length room
-      → (says_written q ≡ given (length card)) × (end ≡ card ++ drop (length card) room)
+  pub exported_imports : {room end : List ℕ} {q : Answer ℕ} → Imports limit (take n after) room q end → length card ≤ length room
+      → (q ≡ given (length card)) × (end ≡ card ++ drop (length card) room)
   exported_imports {room} {end} imports h =
       let own = rw exported_list at imports in
       let answer : importing limit (list_of card) (length room) ≡ given (length card) =

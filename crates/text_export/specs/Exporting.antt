@@ -12,7 +12,7 @@
 -- Assumes nothing.
 use Rattle.std.specs.Prelude.{◌≡◌, ℕ, ◌+◌, ◌*◌, cond, List, [], ◌∷◌, ◌++◌, length, leb, eqb}
 use Rattle.base_answers.specs.Numbers.{Room}
-use Rattle.base_answers.specs.Answer.{Answer, given, refused, test, first, output_after}
+use Rattle.base_answers.specs.Answer.{Answer, test, first, output_after}
 use Rattle.base_lists.specs.Row.{row}
 use Rattle.card_block.specs.Bytes.{AreBytes}
 use Rattle.card_entries.specs.declared.Format.{Format}
@@ -24,8 +24,6 @@ use Rattle.card_reader.specs.Reading.{reading_order}
 use Rattle.text_probes.specs.declared.line.Marked.{Marked}
 use Rattle.text_probes.specs.declared.line.Marked.TheVariants.{Bare, Two, Run}
 use Rattle.text_probes.specs.Line.{Line, line_text, most_line}
-use Rattle.text_export.specs.declared.Exported.{Exported}
-use Rattle.text_export.specs.declared.Exported.TheVariants.{Text, Refused}
 
 unfoldable pub listed_for : ℕ → Slot → Marked
 listed_for kind s =
@@ -52,11 +50,7 @@ exporting limit card room =
 abbrev pub list_room : ℕ → ℕ
 list_room limit = most_line * limit
 
-abbrev pub says_exported : Exported → Answer ℕ
-says_exported (Text n) = given n
-says_exported (Refused r) = refused r.number r.place
-
-pub record Exports (limit : ℕ) (card before : List ℕ) (r : Exported) (after : List ℕ) : Type 0 where
+pub record Exports (limit : ℕ) (card before : List ℕ) (r : Answer ℕ) (after : List ℕ) : Type 0 where
   pub of_bytes : AreBytes card
-  pub answer : says_exported r ≡ exporting limit card (length before)
+  pub answer : r ≡ exporting limit card (length before)
   pub bytes : after ≡ output_after (list_of card) before (exporting limit card (length before))

@@ -15,7 +15,7 @@ use text_probes::line::Marked;
 fn both_length(p: u16, q: u16) -> usize
     ensures { result ≡ length (decimal p) + 1 + length (decimal q) }
 {
-    base_text::digits_in(p as usize) + 1 + base_text::digits_in(q as usize)
+    base_text::digits_in(usize::from(p)) + 1 + base_text::digits_in(usize::from(q))
 }
 
 // Of what is listed.
@@ -23,9 +23,8 @@ fn listed_length(listed: Marked) -> usize
     ensures { result ≡ length (listed_text listed) }
 {
     match listed {
-        Marked::Bare(p) => base_text::digits_in(p as usize),
-        Marked::Two(p, q) => both_length(p, q),
-        Marked::Run(p, q) => both_length(p, q),
+        Marked::Bare(p) => base_text::digits_in(usize::from(p)),
+        Marked::Two(p, q) | Marked::Run(p, q) => both_length(p, q),
     }
 }
 
@@ -43,10 +42,8 @@ pub fn text_length(card: &[u8], f: Format) -> usize
     ensures { result ≡ length (list_of card.now) }
 {
     let mut n = 0;
-    let mut e = 0;
-    while e < f.m {
+    for e in 0..f.m {
         n += line_length(f.kind, f.l, card_layout::slot_of(card, e));
-        e += 1;
     }
     n
 }

@@ -22,9 +22,9 @@ fn put_both(out: &mut [u8], at: usize, p: u16, mark: &[u8], q: u16) -> usize
     requires { at + length (decimal p ++ (mark.now ++ decimal q)) ≤ length out.old }
     ensures { Put (decimal p ++ (mark.now ++ decimal q)) at out.old result out.new }
 {
-    let mark_at = base_text::put_digits(out, at, p as usize);
+    let mark_at = base_text::put_digits(out, at, usize::from(p));
     let q_at = base_text::put_text(out, mark_at, mark);
-    base_text::put_digits(out, q_at, q as usize)
+    base_text::put_digits(out, q_at, usize::from(q))
 }
 
 // What is listed.
@@ -33,7 +33,7 @@ fn put_listed(out: &mut [u8], at: usize, listed: Marked) -> usize
     ensures { Put (listed_text listed) at out.old result out.new }
 {
     match listed {
-        Marked::Bare(p) => base_text::put_digits(out, at, p as usize),
+        Marked::Bare(p) => base_text::put_digits(out, at, usize::from(p)),
         Marked::Two(p, q) => put_both(out, at, p, b",", q),
         Marked::Run(p, q) => put_both(out, at, p, b"-", q),
     }
@@ -46,9 +46,7 @@ fn put_word(out: &mut [u8], at: usize, l: usize, word: u32) -> usize
 {
     let end = at + l;
     let mut v = word;
-    let mut i = end;
-    while at < i {
-        i -= 1;
+    for i in (at..end).rev() {
         out[i] = base_letters::letter_of((v % CODES) as usize);
         v /= CODES;
     }
@@ -73,9 +71,7 @@ pub fn put_lines(card: &[u8], f: Format, out: &mut [u8])
     ensures { out.new ≡ list_of card.now }
 {
     let mut at = 0;
-    let mut e = 0;
-    while e < f.m {
+    for e in 0..f.m {
         at = put_line(out, at, f.kind, f.l, card_layout::slot_of(card, e));
-        e += 1;
     }
 }

@@ -9,7 +9,6 @@ use lib.ListN.{length, drop, length-append}
 use lib.Seq.{append_snoc}
 use lib.Dec.{leb}
 use borrow.Author.Tests.{leb-true, leb-false}
-use Rattle.base_answers.specs.declared.Refusal.{Refusal}
 use Rattle.base_answers.specs.Numbers.{Room, Name, Letter, Line}
 use Rattle.base_answers.specs.Answer.{given, refused, sound, Test, test, first}
 use Rattle.base_answers.proofs.Laws.{first_fail, first_refused, first_holds, first_passed, first_value, first_refused_any}
@@ -19,8 +18,6 @@ use Rattle.base_letters.specs.Letters.{is_letter}
 use Rattle.text_fasta.specs.Record.{newline, mark, leading, is_name, are_letters, lines_for, in_lines, record_of}
 use Rattle.text_fasta.specs.Writing.{letter_test, writing, Writes}
 use Rattle.text_fasta.specs.Reading.{name_length, name_in, is_headed, body_in, letters_in, are_lines, reading, Reads}
-use Rattle.text_fasta.specs.declared.writing.Recorded.TheVariants as recorded
-use Rattle.text_fasta.specs.declared.reading.Parsed.TheVariants as parsed
 use Rattle.text_fasta.specs.Inner.{is_body, body_tests}
 use Rattle.text_fasta.proofs.LineLaws.{length_lines}
 use Rattle.text_fasta.proofs.LinedLaws.{is_body_lem, other_lines}
@@ -54,15 +51,14 @@ module _ (name ls out : List ℕ) where
   abbrev bytes : List ℕ
   bytes = record_of name ls
 
-  writes_refused : {x : Refusal} → writing name ls (length out) ≡ refused x.number x.place → Writes name ls out (recorded.Refused x) out
+  writes_refused : {n p : ℕ} → writing name ls (length out) ≡ refused n p → Writes name ls out (refused n p) out
   writes_refused e = record { answer = sym e; bytes = rw e refl }
 
-  pub no_name : is_name name ≡ false → Writes name ls out (recorded.Refused (record { number = Name; place = 0 })) out
+  pub no_name : is_name name ≡ false → Writes name ls out (refused Name 0) out
   no_name h = writes_refused (writing_unnamed name ls (length out) h)
 
   module _ (named : is_name name ≡ true) where
-    pub no_letters : {x : Refusal} → first (letter_test ls ∷ []) sound ≡ refused x.number x.place
-        → Writes name ls out (recorded.Refused x) out
+    pub no_letters : {n p : ℕ} → first (letter_test ls ∷ []) sound ≡ refused n p → Writes name ls out (refused n p) out
     no_letters e = writes_refused (writing_by_letters name ls (length out) named e)
 
     module _ (lettered : are_letters ls ≡ true) where
@@ -70,7 +66,7 @@ module _ (name ls out : List ℕ) where
       abbrev counted : Bool
       counted = leb (length name + 2 + (length ls + lines_for (length ls))) (length out)
 
-      pub no_room : counted ≡ false → Writes name ls out (recorded.Refused (record { number = Room; place = 0 })) out
+      pub no_room : counted ≡ false → Writes name ls out (refused Room 0) out
       no_room h =
           let short = leb-false (length name + 2 + (length ls + lines_for (length ls))) (length out) h in
           writes_refused (writing_short name ls (length out) named lettered (omega (arith, short, length_record name ls)))
@@ -78,7 +74,7 @@ module _ (name ls out : List ℕ) where
       pub room_for : counted ≡ true → length bytes ≤ length out
       room_for h = omega (arith, leb-true (length name + 2 + (length ls + lines_for (length ls))) (length out) h, length_record name ls)
 
-      pub record_written : counted ≡ true → {n : ℕ} {after : List ℕ} → Put bytes 0 out n after → Writes name ls out (recorded.Record n) after
+      pub record_written : counted ≡ true → {n : ℕ} {after : List ℕ} → Put bytes 0 out n after → Writes name ls out (given n) after
       record_written h put =
           let says = writing_given name ls (length out) named lettered (room_for h) in
           let at = started put in
@@ -90,37 +86,34 @@ module _ (r name letters : List ℕ) where
   abbrev ls : List ℕ
   ls = letters_in (body_in r)
 
-  reads_refused : {x : Refusal} → reading r (length name) (length letters) ≡ refused x.number x.place
-      → Reads r name letters (parsed.Refused x) name letters
+  reads_refused : {n p : ℕ} → reading r (length name) (length letters) ≡ refused n p → Reads r name letters (refused n p) name letters
   reads_refused e = record { answer = sym e; in_name = rw e refl; in_letters = rw e refl }
 
-  pub not_headed : (n : ℕ) {x : Refusal} → first (test (is_headed r) Name 0 ∷ []) n ≡ refused x.number x.place
-      → Reads r name letters (parsed.Refused x) name letters
-  not_headed n e = reads_refused (reading_by_head r (length name) (length letters) (first_refused_any _ n sound e))
+  pub not_headed : (k : ℕ) {n p : ℕ} → first (test (is_headed r) Name 0 ∷ []) k ≡ refused n p → Reads r name letters (refused n p) name letters
+  not_headed k e = reads_refused (reading_by_head r (length name) (length letters) (first_refused_any _ k sound e))
 
   module _ (headed : is_headed r ≡ true) where
-    pub no_body : {x : Refusal} → refused x.number x.place ≡ first (body_tests (body_in r)) sound
-        → Reads r name letters (parsed.Refused x) name letters
+    pub no_body : {n p : ℕ} → refused n p ≡ first (body_tests (body_in r)) sound → Reads r name letters (refused n p) name letters
     no_body e = reads_refused (reading_by_body r (length name) (length letters) headed (sym e))
 
     module _ (body : is_body (body_in r) ≡ true) where
       by_room : (length name < length (name_in r)) ⊎ (length letters < length ls)
-          → Reads r name letters (parsed.Refused (record { number = Room; place = 0 })) name letters
+          → Reads r name letters (refused Room 0) name letters
       by_room h =
           let held = is_body_lem (body_in r) body in
           reads_refused (reading_short r (length name) (length letters) headed held.0 held.1 h)
 
       module _ {n : ℕ} (named : n ≡ name_length r) where
-        pub no_room_name : length name < n → Reads r name letters (parsed.Refused (record { number = Room; place = 0 })) name letters
+        pub no_room_name : length name < n → Reads r name letters (refused Room 0) name letters
         no_room_name h = by_room (inl (omega (arith, name_length_lem r)))
 
         module _ {k : ℕ} (counted : k ≡ length ls) where
-          pub no_room_letters : length letters < k → Reads r name letters (parsed.Refused (record { number = Room; place = 0 })) name letters
+          pub no_room_letters : length letters < k → Reads r name letters (refused Room 0) name letters
           no_room_letters h = by_room (inr (omega (arith, counted)))
 
           pub record_read : n ≤ length name → k ≤ length letters → {i j : ℕ} {name' letters' : List ℕ} → Put (name_in r) 0 name i name'
               → Put ls 0 letters j letters'
-              → Reads r name letters (parsed.Parts n k) name' letters'
+              → Reads r name letters (given (n, k)) name' letters'
           record_read g h one other =
               let held = is_body_lem (body_in r) body in
               let own : n ≡ length (name_in r) = named ∙ sym (name_length_lem r) in
@@ -137,8 +130,7 @@ module _ (bs : List ℕ) where
   abbrev lines_test : List Test
   lines_test = test (are_lines bs) Line 0 ∷ []
 
-  pub letters_fault : {x : Refusal} → first (letter_test (letters_in bs) ∷ []) sound ≡ refused x.number x.place
-      → refused x.number x.place ≡ first (body_tests bs) sound
+  pub letters_fault : {n p : ℕ} → first (letter_test (letters_in bs) ∷ []) sound ≡ refused n p → refused n p ≡ first (body_tests bs) sound
   letters_fault e = sym (first_refused lines_test sound (letter_test (letters_in bs) ∷ []) e)
 
   pub lines_fault : is_body bs ≡ false → first (letter_test (letters_in bs) ∷ []) sound ≡ given sound

@@ -9,6 +9,8 @@ use lib.ListN.{length, get_or, take, drop, length-drop, drop_of_length-le, get_o
 use lib.Seq.{take_all, length-take-le, get_or-drop}
 use lib.Dec.{eqb, ltb}
 use borrow.Author.Tests.{eqb-true, eq-eqb, ne_eqb, ltb-true, ltb-false}
+use Rattle.std.specs.Prelude.{min}
+use Rattle.std.proofs.lemmas.List.{take_min}
 use Rattle.base_lists.proofs.TestLaws.{both}
 use Rattle.text_fasta.specs.Record.{newline, mark, leading, is_name}
 use Rattle.text_fasta.specs.Reading.{no_break, name_length, name_in, is_headed, body_in}
@@ -45,10 +47,11 @@ module _ (r : List ℕ) where
       let none : after ≡ [] = drop_of_length-le r {i = 1} (omega arith) in
       rw none refl
 
-  pub all_in_reach : length r ≤ name_reach + 1 → leading no_break (take (length r - 1) after) ≡ leading no_break (take name_reach after)
-  all_in_reach h =
-      let few = length-drop 1 r in
-      ap (leading no_break) (take_all (length r - 1) after (omega arith) ∙ sym (take_all name_reach after (omega arith)))
+  pub in_reach : {end : ℕ} → end ≡ min (length r) (name_reach + 1)
+      → leading no_break (take (end - 1) after) ≡ leading no_break (take name_reach after)
+  in_reach {end} e =
+      let within : end - 1 ≡ min name_reach (length after) = omega (arith, e, length-drop 1 r) in
+      ap (leading no_break) (ap (λ (k : ℕ). take k after) within ∙ take_min name_reach after)
 
   module _ {n : ℕ} (is : n ≡ leading no_break (take name_reach after)) where
     pub within_reach : n ≤ name_reach

@@ -1,14 +1,18 @@
 -- Laws of how many stand before the first that is not ok, and of whether all are. Assumes nothing.
 use mathlib.Core.Path.{◌≡◌, refl, sym, ap, ◌∙◌}
-use mathlib.Core.Bool.{Bool, true, false, ◌&&◌, cond, and_assoc}
+use mathlib.Core.Bool.{Bool, true, false, ◌&&◌, cond, and_assoc, and-true}
 use mathlib.Core.List.{List, [], ◌∷◌, ◌++◌}
-use Prim.Native.Nat.{ℕ, zero, suc, ◌+◌, ◌-◌, ◌≤◌, ◌<◌}
+use Prim.Native.Nat.{ℕ, zero, suc, ◌+◌, ◌*◌, ◌≤◌, ◌<◌}
 use native.Mathlib.Numerals.{add-one}
 use native.Mathlib.Omega.{arith}
-use lib.ListN.{length, get_or, take, drop, length-drop, drop_of_length-le, take-append-drop}
-use lib.Seq.{drop-cons, drop-drop, take_all}
+use lib.ListN.{length, get_or, take, drop, drop_of_length-le, take-append-drop}
+use lib.Seq.{drop-cons, drop-drop}
 use lib.Dec.{eqb}
 use borrow.Author.Tests.{eqb-true, eqb-false, eq-eqb, ne_eqb}
+use Rattle.std.specs.Simd.{first_chunks}
+use Rattle.std.specs.List.{AllWithin, HoldsAt}
+use Rattle.std.specs.Prelude.{Option, Some, None}
+use Rattle.std.specs.Option.{MatchOption, unwrap_or}
 use Rattle.base_lists.proofs.Fold.{all_turn, all_end}
 use Rattle.text_fasta.specs.Record.{leading, are_all}
 
@@ -98,34 +102,50 @@ leading_also ok also each (x ∷ xs) e = go (leading_also ok also each xs) (ok x
     go later true q e = rw (each x q) (ap suc (later (omega arith)))
     go later false q e = absurd (omega arith)
 
--- ---- a loop that looks at one after the other
+-- ---- looking at one after the other
 
 -- the first i are ok
-pub record Led (ok : ℕ → Bool) (xs : List ℕ) (i : ℕ) : Type 0 where
+record Led (ok : ℕ → Bool) (xs : List ℕ) (i : ℕ) : Type 0 where
   pub within : i ≤ length xs
   pub so_far : leading ok xs ≡ i + leading ok (drop i xs)
 
 module _ {ok : ℕ → Bool} {xs : List ℕ} where
-  pub led_none : Led ok xs 0
-  led_none = record { within = omega arith; so_far = omega arith }
-
   module _ {i : ℕ} (led : Led ok xs i) where
-    pub led_turn : i < length xs → ok (get_or xs i 0) ≡ true → Led ok xs (i + 1)
+    led_turn : i < length xs → ok (get_or xs i 0) ≡ true → Led ok xs (i + 1)
     led_turn h e =
         let more : leading ok (drop i xs) ≡ suc (leading ok (drop (i + 1) xs)) =
         rw (add-one i, drop-cons xs i 0 h) (leading_on ok (get_or xs i 0) (drop (suc i) xs) e) in
         record { within = omega arith; so_far = omega (arith, led.so_far, more) }
 
-    pub led_stop : i < length xs → ok (get_or xs i 0) ≡ false → i ≡ leading ok xs
+    led_stop : i < length xs → ok (get_or xs i 0) ≡ false → i ≡ leading ok xs
     led_stop h e =
         let none : leading ok (drop i xs) ≡ 0 = rw (drop-cons xs i 0 h) (leading_off ok (get_or xs i 0) (drop (suc i) xs) e) in
         omega (arith, led.so_far, none)
 
-    pub led_all : length xs ≤ i → length xs ≡ leading ok xs
+    led_all : length xs ≤ i → length xs ≡ leading ok xs
     unfolding leading
     led_all h =
         let none : leading ok (drop i xs) ≡ 0 = rw (drop_of_length-le xs h) refl in
         omega (arith, led.within, led.so_far, none)
+
+-- the byte b, if it is one, is ok or not
+abbrev pub IsByte : (ℕ → Bool) → Bool → ℕ → Type 0
+IsByte ok t b = b < 256 → ok b ≡ t
+
+-- the first that is not ok, as `position` answers
+module _ (ok : ℕ → Bool) (xs : List ℕ) (bytes : (i : ℕ) → get_or xs i 0 < 256) where
+  led_to : (i : ℕ) → i ≤ length xs → AllWithin (IsByte ok true) xs 0 i → Led ok xs i
+  led_to zero h each = record { within = omega arith; so_far = omega arith }
+  led_to (suc i) h each =
+      let before : Led ok xs i = led_to i (omega arith) (λ k d l m. each k d l (omega arith)) in
+      rw (sym (add-one i)) (led_turn before (omega arith) (each i 0 (omega arith) (omega arith) (bytes i)))
+
+  pub led_found : (r : Option ℕ)
+      → MatchOption r (AllWithin (IsByte ok true) xs 0 (length xs))
+      (λ i. (i < length xs) × HoldsAt (IsByte ok false) xs i × AllWithin (IsByte ok true) xs 0 i)
+      → unwrap_or r (length xs) ≡ leading ok xs
+  led_found None found = led_all (led_to (length xs) (omega arith) found) (omega arith)
+  led_found (Some i) found = led_stop (led_to i (omega (arith, found.0)) found.2) found.0 (found.1 0 (bytes i))
 
 -- ---- whether all are ok
 
@@ -153,38 +173,46 @@ module _ (ok : ℕ → Bool) where
 
 -- a loop that looks at all of them: t is whether the first i are ok
 pub record Seen (ok : ℕ → Bool) (xs : List ℕ) (t : Bool) (i : ℕ) : Type 0 where
-  pub within : i ≤ length xs
   pub so_far : (t && are_all ok (drop i xs)) ≡ are_all ok xs
 
 module _ {ok : ℕ → Bool} {xs : List ℕ} where
-  pub seen_none : Seen ok xs true 0
-  seen_none = record { within = omega arith; so_far = refl }
-
   module _ {t : Bool} {i : ℕ} (seen : Seen ok xs t i) where
     pub seen_turn : i < length xs → {u : Bool} → u ≡ ok (get_or xs i 0) → Seen ok xs (t && u) (i + 1)
     seen_turn h {u} e =
-        record { within = omega arith; so_far = all_turn ok (are_all ok) (all_none ok) (all_first ok) xs i t (are_all ok xs) seen.so_far h u e }
-
-    -- a part at once, and all that is left
-    pub seen_part : {end : ℕ} → i ≤ end → end ≤ length xs → {u : Bool} → u ≡ are_all ok (take (end - i) (drop i xs)) → Seen ok xs (t && u) end
-    seen_part {end} h g {u} e =
-        let back : i + (end - i) ≡ end = omega arith in
-        let left : drop i xs ≡ take (end - i) (drop i xs) ++ drop end xs =
-        sym (take-append-drop (end - i) (drop i xs))
-        ∙ ap (λ (ys : List ℕ). take (end - i) (drop i xs) ++ ys) (drop-drop (end - i) i xs ∙ ap (λ (k : ℕ). drop k xs) back) in
-        let here : are_all ok (drop i xs) ≡ (u && are_all ok (drop end xs)) =
-        ap (are_all ok) left
-        ∙ all_joined ok (take (end - i) (drop i xs)) (drop end xs)
-        ∙ ap (λ (v : Bool). v && are_all ok (drop end xs)) (sym e) in
-        record {
-          within = g;
-          so_far = and_assoc t u (are_all ok (drop end xs)) ∙ ap (λ (v : Bool). t && v) (sym here) ∙ seen.so_far;
-        }
-
-    pub seen_rest : {u : Bool} → u ≡ are_all ok (take (length xs - i) (drop i xs)) → (t && u) ≡ are_all ok xs
-    seen_rest e =
-        let rest : take (length xs - i) (drop i xs) ≡ drop i xs = take_all (length xs - i) (drop i xs) (omega (arith, length-drop i xs)) in
-        ap (λ (v : Bool). t && v) (e ∙ ap (are_all ok) rest) ∙ seen.so_far
+        record { so_far = all_turn ok (are_all ok) (all_none ok) (all_first ok) xs i t (are_all ok xs) seen.so_far h u e }
 
     pub seen_all : length xs ≤ i → t ≡ are_all ok xs
     seen_all h = all_end ok (are_all ok) (all_none ok) (all_first ok) xs i t (are_all ok xs) seen.so_far h
+
+-- ---- whether all of some pieces are ok
+
+module _ (ok : ℕ → Bool) where
+  unfoldable pub all_pieces : List (List ℕ) → Bool
+  all_pieces [] = true
+  all_pieces (x ∷ xs) = are_all ok x && all_pieces xs
+
+  module _ (xs : List (List ℕ)) (t : Bool) {i : ℕ} (so_far : (t && all_pieces (drop i xs)) ≡ all_pieces xs) where
+    pub pieces_turn : i < length xs → {u : Bool} → u ≡ are_all ok (get_or xs i []) → ((t && u) && all_pieces (drop (i + 1) xs)) ≡ all_pieces xs
+    unfolding all_pieces
+    pieces_turn h {u} e =
+        let left : all_pieces (drop i xs) ≡ (u && all_pieces (drop (i + 1) xs)) = rw (add-one i, drop-cons xs i [] h, e) refl in
+        and_assoc t u (all_pieces (drop (i + 1) xs)) ∙ ap (λ (v : Bool). t && v) (sym left) ∙ so_far
+
+    pub pieces_all : length xs ≤ i → t ≡ all_pieces xs
+    unfolding all_pieces
+    pieces_all h =
+        let left : all_pieces (drop i xs) ≡ true = rw (drop_of_length-le xs h) refl in
+        sym (and-true t) ∙ ap (λ (v : Bool). t && v) (sym left) ∙ so_far
+
+  -- k pieces of n, and what is left after them
+  pub pieces_join : (n k : ℕ) (xs : List ℕ) → (all_pieces (first_chunks n k xs) && are_all ok (drop (k * n) xs)) ≡ are_all ok xs
+  unfolding all_pieces
+  pieces_join n zero xs = let none : 0 * n ≡ 0 = omega arith in rw none refl
+  pieces_join n (suc k) xs =
+      let on : n + k * n ≡ suc k * n = omega arith in
+      and_assoc (are_all ok (take n xs)) (all_pieces (first_chunks n k (drop n xs))) (are_all ok (drop (suc k * n) xs))
+      ∙ ap (λ (ys : List ℕ). are_all ok (take n xs) && (all_pieces (first_chunks n k (drop n xs)) && are_all ok ys))
+      (sym (drop-drop (k * n) n xs ∙ ap (λ (m : ℕ). drop m xs) on))
+      ∙ ap (λ (v : Bool). are_all ok (take n xs) && v) (pieces_join n k (drop n xs))
+      ∙ sym (all_joined ok (take n xs) (drop n xs))
+      ∙ ap (are_all ok) (take-append-drop n xs)

@@ -15,11 +15,9 @@ use Rattle.base_answers.specs.Answer.{Answer, refused}
 use Rattle.base_answers.proofs.Laws.{given_not_refused}
 use Rattle.base_letters.specs.Letters.{is_letter}
 use Rattle.text_fasta.specs.Record.{leading, are_all, is_name, are_letters, record_of}
-use Rattle.text_fasta.specs.Writing.{writing, says_recorded, Writes}
-use Rattle.text_fasta.specs.Reading.{name_in, is_headed, body_in, letters_in, are_lines, reading, says_parsed, Reads}
+use Rattle.text_fasta.specs.Writing.{writing, Writes}
+use Rattle.text_fasta.specs.Reading.{name_in, is_headed, body_in, letters_in, are_lines, reading, Reads}
 use Rattle.text_fasta.specs.Profile.{IsRecord, Begins, LetterFault, not_a_letter, none_at_all, Departs, name, letter, line, Unread, departs, short, Unwritten, no_name, no_letters, no_room, Judged, keeps, breaks}
-use Rattle.text_fasta.specs.declared.writing.Recorded.{Recorded}
-use Rattle.text_fasta.specs.declared.reading.Parsed.{Parsed}
 use Rattle.text_fasta.proofs.LeadingLaws.{leading_few, leading_next, leading_own, leading_up_to}
 use Rattle.text_fasta.proofs.TestLaws.{letters_hold, letters_fail}
 use Rattle.text_fasta.proofs.BodyLaws.{not_both, lined_lines, not_lined}
@@ -155,17 +153,17 @@ record_keeps {r} {name = nm} {ls = own-letters} is d =
 pub departs_one : {r : List ℕ} {n p m q : ℕ} → Departs r n p → Departs r m q → (n ≡ m) × (p ≡ q)
 departs_one {r} d e = refusal_parts (sym (departs_refused r 0 0 d) ∙ departs_refused r 0 0 e)
 
-module _ {r a b a' b' : List ℕ} {q : Parsed} (did : Reads r a b q a' b') {n p : ℕ} where
+module _ {r a b a' b' : List ℕ} {q : Answer (ℕ × ℕ)} (did : Reads r a b q a' b') {n p : ℕ} where
   -- a refusal says why
-  pub refused_unread : says_parsed q ≡ refused n p → Unread r (length a) (length b) n p
+  pub refused_unread : q ≡ refused n p → Unread r (length a) (length b) n p
   refused_unread says = why_unread r (length a) (length b) (sym did.answer ∙ says)
 
   -- and what is so is refused
-  pub unread_is_refused : Unread r (length a) (length b) n p → says_parsed q ≡ refused n p
+  pub unread_is_refused : Unread r (length a) (length b) n p → q ≡ refused n p
   unread_is_refused why = did.answer ∙ unread_refused r (length a) (length b) why
 
   -- neither output differs
-  pub read_untouched : says_parsed q ≡ refused n p → (a' ≡ a) × (b' ≡ b)
+  pub read_untouched : q ≡ refused n p → (a' ≡ a) × (b' ≡ b)
   read_untouched says =
       let e : reading r (length a) (length b) ≡ refused n p = sym did.answer ∙ says in
       (rw e at did.in_name, rw e at did.in_letters)
@@ -206,12 +204,12 @@ module _ (nm ls : List ℕ) (room : ℕ) where
       go_name false q = told (no_name q)
       go_name true q = go_letters q (are_letters ls) refl
 
-module _ {nm ls before after : List ℕ} {w : Recorded} (did : Writes nm ls before w after) {n p : ℕ} where
-  pub refused_unwritten : says_recorded w ≡ refused n p → Unwritten nm ls (length before) n p
+module _ {nm ls before after : List ℕ} {w : Answer ℕ} (did : Writes nm ls before w after) {n p : ℕ} where
+  pub refused_unwritten : w ≡ refused n p → Unwritten nm ls (length before) n p
   refused_unwritten says = why_unwritten nm ls (length before) (sym did.answer ∙ says)
 
-  pub unwritten_is_refused : Unwritten nm ls (length before) n p → says_recorded w ≡ refused n p
+  pub unwritten_is_refused : Unwritten nm ls (length before) n p → w ≡ refused n p
   unwritten_is_refused why = did.answer ∙ unwritten_refused nm ls (length before) why
 
-  pub write_untouched : says_recorded w ≡ refused n p → after ≡ before
+  pub write_untouched : w ≡ refused n p → after ≡ before
   write_untouched says = rw (sym did.answer ∙ says) at did.bytes

@@ -6,23 +6,21 @@ use Prim.Native.Nat.{ℕ, ◌≤◌}
 use lib.ListN.{length, take, drop}
 use lib.Seq.{take-append_seam}
 use Rattle.base_answers.specs.Numbers.{Name, Letter, Line}
-use Rattle.base_answers.specs.Answer.{given}
+use Rattle.base_answers.specs.Answer.{Answer, given}
 use Rattle.base_answers.proofs.Laws.{first_passed, first_value}
 use Rattle.base_letters.specs.Letters.{is_letter}
 use Rattle.text_fasta.specs.Record.{leading, is_name, are_letters, record_of}
-use Rattle.text_fasta.specs.Writing.{writing, says_recorded, Writes}
-use Rattle.text_fasta.specs.Reading.{name_in, is_headed, body_in, letters_in, are_lines, reading, says_parsed, Reads}
+use Rattle.text_fasta.specs.Writing.{writing, Writes}
+use Rattle.text_fasta.specs.Reading.{name_in, is_headed, body_in, letters_in, are_lines, reading, Reads}
 use Rattle.text_fasta.specs.Profile.{IsRecord}
-use Rattle.text_fasta.specs.declared.writing.Recorded.{Recorded}
-use Rattle.text_fasta.specs.declared.reading.Parsed.{Parsed}
 use Rattle.text_fasta.proofs.ByTests.{writing_given, writing_long}
 use Rattle.text_fasta.proofs.ProfileLaws.{own_record, record_own, record_given}
 
 -- ---- writing
 
-module _ {name ls before after : List ℕ} {r : Recorded} (did : Writes name ls before r after) where
+module _ {name ls before after : List ℕ} {r : Answer ℕ} (did : Writes name ls before r after) where
   -- what is written is the record
-  pub written_is_record : {n : ℕ} → says_recorded r ≡ given n → IsRecord (take n after) name ls
+  pub written_is_record : {n : ℕ} → r ≡ given n → IsRecord (take n after) name ls
   unfolding writing
   written_is_record {n} says =
       let bytes = record_of name ls in
@@ -39,7 +37,7 @@ module _ {name ls before after : List ℕ} {r : Recorded} (did : Writes name ls 
 
   -- and of a name and letters one is, where there is room for it
   pub record_is_written : {bytes : List ℕ} → IsRecord bytes name ls → length bytes ≤ length before
-      → (says_recorded r ≡ given (length bytes)) × (after ≡ bytes ++ drop (length bytes) before)
+      → (r ≡ given (length bytes)) × (after ≡ bytes ++ drop (length bytes) before)
   record_is_written own room =
       let says = writing_given name ls (length before) own.named own.lettered (rw own.is at room) in
       rw own.is (did.answer ∙ says, rw says at did.bytes)
@@ -58,9 +56,9 @@ given_of r names letters v says =
     let z = first_passed (are_lines (body_in r)) Line 0 _ lengths v y.1 in
     (own_record r x.0 y.0 z.0, first_value _ lengths v says)
 
-module _ {r a b a' b' : List ℕ} {q : Parsed} (did : Reads r a b q a' b') where
+module _ {r a b a' b' : List ℕ} {q : Answer (ℕ × ℕ)} (did : Reads r a b q a' b') where
   -- what is read is a record, of the name and the letters that are handed back
-  pub read_is_record : {n k : ℕ} → says_parsed q ≡ given (n, k) → IsRecord r (take n a') (take k b')
+  pub read_is_record : {n k : ℕ} → q ≡ given (n, k) → IsRecord r (take n a') (take k b')
   read_is_record {n} {k} says =
       let name = name_in r in
       let ls = letters_in (body_in r) in
@@ -76,7 +74,7 @@ module _ {r a b a' b' : List ℕ} {q : Parsed} (did : Reads r a b q a' b') where
 
   -- and each record is read, where there is room for both
   pub record_is_read : {name ls : List ℕ} → IsRecord r name ls → length name ≤ length a → length ls ≤ length b
-      → (says_parsed q ≡ given (length name, length ls)) × (a' ≡ name ++ drop (length name) a) × (b' ≡ ls ++ drop (length ls) b)
+      → (q ≡ given (length name, length ls)) × (a' ≡ name ++ drop (length name) a) × (b' ≡ ls ++ drop (length ls) b)
   record_is_read {name} {ls} is h g =
       let own = record_own is in
       let says = record_given is h g in
@@ -91,13 +89,13 @@ module _ {r a b a' b' : List ℕ} {q : Parsed} (did : Reads r a b q a' b') where
 -- ---- both ways
 
 -- "A record written and read gives name and letters again."
-pub written_reads_back : {name ls before after : List ℕ} {w : Recorded} {n : ℕ} → Writes name ls before w after → says_recorded w ≡ given n
-    → {a b a' b' : List ℕ} {q : Parsed} → Reads (take n after) a b q a' b' → length name ≤ length a → length ls ≤ length b
-    → (says_parsed q ≡ given (length name, length ls)) × (a' ≡ name ++ drop (length name) a) × (b' ≡ ls ++ drop (length ls) b)
+pub written_reads_back : {name ls before after : List ℕ} {w : Answer ℕ} {n : ℕ} → Writes name ls before w after → w ≡ given n
+    → {a b a' b' : List ℕ} {q : Answer (ℕ × ℕ)} → Reads (take n after) a b q a' b' → length name ≤ length a → length ls ≤ length b
+    → (q ≡ given (length name, length ls)) × (a' ≡ name ++ drop (length name) a) × (b' ≡ ls ++ drop (length ls) b)
 written_reads_back wrote says reads h g = record_is_read reads (written_is_record wrote says) h g
 
 -- a record that is read, written again, is its own bytes
-pub read_writes_back : {r a b a' b' : List ℕ} {q : Parsed} {n k : ℕ} → Reads r a b q a' b' → says_parsed q ≡ given (n, k)
-    → {before after : List ℕ} {w : Recorded} → Writes (take n a') (take k b') before w after → length r ≤ length before
-    → (says_recorded w ≡ given (length r)) × (after ≡ r ++ drop (length r) before)
+pub read_writes_back : {r a b a' b' : List ℕ} {q : Answer (ℕ × ℕ)} {n k : ℕ} → Reads r a b q a' b' → q ≡ given (n, k)
+    → {before after : List ℕ} {w : Answer ℕ} → Writes (take n a') (take k b') before w after → length r ≤ length before
+    → (w ≡ given (length r)) × (after ≡ r ++ drop (length r) before)
 read_writes_back reads says wrote room = record_is_written wrote (read_is_record reads says) room

@@ -1,19 +1,19 @@
 -- Laws of the tests of a byte, of a name, of a room, and of letters. Assumes nothing.
 use mathlib.Core.Path.{◌≡◌, refl, sym, ◌∙◌}
-use mathlib.Core.Bool.{Bool, true, false, ◌&&◌}
+use mathlib.Core.Bool.{Bool, true, false, ◌&&◌, and_assoc, and-false}
 use mathlib.Core.Logic.{◌⊎◌, inl, inr}
 use mathlib.Core.List.{List, [], ◌∷◌}
-use Prim.Native.Nat.{ℕ, ◌+◌, ◌-◌, ◌/◌, ◌≤◌, ◌<◌}
+use Prim.Native.Nat.{ℕ, ◌≤◌, ◌<◌}
 use native.Mathlib.Omega.{arith}
 use lib.ListN.{length}
 use lib.Dec.{eqb, leb}
-use borrow.Author.Tests.{leb-true, leb-false, le-leb, lt-leb, eq-eqb, ne_eqb, eqb-true, eqb-false}
+use borrow.Author.Tests.{leb-true, le-leb, lt-leb, eq-eqb, ne_eqb, eqb-true, eqb-false}
 use Rattle.base_answers.specs.Numbers.{Letter}
 use Rattle.base_answers.specs.Answer.{given, refused, first}
 use Rattle.base_answers.proofs.Laws.{first_last, first_fail}
 use Rattle.base_lists.proofs.TestLaws.{both}
 use Rattle.base_letters.specs.Letters.{is_letter}
-use Rattle.text_fasta.specs.Record.{least_name, most_name, line_letters, leading, are_all, is_printable, is_name, are_letters, lines_for}
+use Rattle.text_fasta.specs.Record.{least_name, most_name, leading, are_all, is_printable, is_name, are_letters}
 use Rattle.text_fasta.specs.Writing.{letter_test}
 use Rattle.text_fasta.proofs.LeadingLaws.{leading_few}
 
@@ -25,12 +25,6 @@ half_fails : (t u : Bool) → t ≡ false → false ≡ (t && u)
 half_fails t u h = rw h refl
 
 -- ---- a byte
-
-pub printable_below : (b : ℕ) → b < 33 → false ≡ is_printable b
-printable_below b h = half_fails (leb 33 b) (leb b 126) (lt-leb 33 b h)
-
-pub printable_from : (b : ℕ) → 33 ≤ b → leb b 126 ≡ is_printable b
-printable_from b h = half_holds (leb 33 b) (leb b 126) (le-leb 33 b h)
 
 pub printable_within : (b : ℕ) → is_printable b ≡ true → (33 ≤ b) × (b ≤ 126)
 printable_within b e = let h = both (leb 33 b) (leb b 126) e in (leb-true 33 b h.0, leb-true b 126 h.1)
@@ -44,23 +38,21 @@ module _ (name : List ℕ) where
   abbrev printed : Bool
   printed = eqb (leading is_printable name) (length name)
 
-  pub name_none : length name ≡ 0 → false ≡ is_name name
+  abbrev within : Bool
+  within = leb least_name (length name) && short
+
+  together : (within && printed) ≡ is_name name
   unfolding is_name
-  name_none h = half_fails (leb least_name (length name)) (short && printed) (lt-leb least_name (length name) (omega arith))
+  together = and_assoc (leb least_name (length name)) short printed
+
+  pub not_a_name : within ≡ false → false ≡ is_name name
+  not_a_name h = half_fails within printed h ∙ together
+
+  pub name_by_bytes : {k : ℕ} → within ≡ true → k ≡ leading is_printable name → eqb k (length name) ≡ is_name name
+  name_by_bytes h q = rw q (half_holds within printed h ∙ together)
 
   pub name_long : most_name < length name → false ≡ is_name name
-  unfolding is_name
-  name_long h =
-      half_fails short printed (lt-leb (length name) most_name h)
-      ∙ half_holds (leb least_name (length name)) (short && printed) (le-leb least_name (length name) (omega arith))
-
-  pub name_by_bytes : {k : ℕ} → (length name ≡ 0 → ⊥) → length name ≤ most_name → k ≡ leading is_printable name
-      → eqb k (length name) ≡ is_name name
-  unfolding is_name
-  name_by_bytes n h q =
-      rw q
-      (half_holds short printed (le-leb (length name) most_name h)
-      ∙ half_holds (leb least_name (length name)) (short && printed) (le-leb least_name (length name) (omega (arith, n))))
+  name_long h = not_a_name (rw (lt-leb (length name) most_name h) (and-false (leb least_name (length name))))
 
   pub name_holds : is_name name ≡ true → (1 ≤ length name) × (length name ≤ most_name) × (leading is_printable name ≡ length name)
   unfolding is_name
@@ -101,9 +93,6 @@ module _ (ls : List ℕ) where
     letters_refused e h = rw e (sym (first_fail (are_letters ls) Letter lead [] a (letters_fail (rw e at h))))
 
     -- by the two tests that writing takes
-    pub nothing_refused : length ls ≡ 0 → refused Letter 0 ≡ first (letter_test ls ∷ []) a
-    nothing_refused h = letters_refused (omega (arith, leading_few is_letter ls)) (inr h)
-
     pub others_refused : {k : ℕ} → k ≡ lead → are_all is_letter ls ≡ false → refused Letter k ≡ first (letter_test ls ∷ []) a
     others_refused e h = letters_refused e (inl (omega (arith, e, leading_few is_letter ls, eqb-false lead (length ls) h)))
 
@@ -112,28 +101,3 @@ module _ (ls : List ℕ) where
 
     pub letters_given : 0 < length ls → length ls ≡ lead → given a ≡ first (letter_test ls ∷ []) a
     letters_given h e = sym (first_last (are_letters ls) Letter lead a (letters_hold h e))
-
--- ---- a room
-
--- two tests that hold together
-leb_same : (a b m n : ℕ) → (a ≤ b → m ≤ n) → (b < a → n < m) → leb a b ≡ leb m n
-leb_same a b m n up down = go (leb a b) refl
-  where
-    go : (t : Bool) → leb a b ≡ t → leb a b ≡ leb m n
-    go true q = q ∙ sym (le-leb m n (up (leb-true a b q)))
-    go false q = q ∙ sym (lt-leb m n (down (leb-false a b q)))
-
--- whether a record fits, step by step
-module _ (k n room : ℕ) (some : 0 < n) where
-  abbrev bytes : ℕ
-  bytes = k + 2 + (n + lines_for n)
-
-  pub fits_head : room < k + 2 → false ≡ leb bytes room
-  fits_head h = sym (lt-leb bytes room (omega arith))
-
-  pub fits_lines : k + 2 ≤ room → room - (k + 2) < (n - 1) / line_letters + 1 → false ≡ leb bytes room
-  fits_lines g h = sym (lt-leb bytes room (omega arith))
-
-  pub fits_letters : k + 2 ≤ room → (n - 1) / line_letters + 1 ≤ room - (k + 2)
-      → leb n (room - (k + 2) - ((n - 1) / line_letters + 1)) ≡ leb bytes room
-  fits_letters g h = leb_same n (room - (k + 2) - ((n - 1) / line_letters + 1)) bytes room (λ q. omega arith) (λ q. omega arith)

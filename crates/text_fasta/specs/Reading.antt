@@ -9,17 +9,14 @@
 --   same xs ys                == whether two lists are equal
 --   are_lines body             == the body is the lines of its own letters
 --   reading r names letters   == what reading answers, where the outputs have so many bytes: the lengths of the name and of the letters
---   says_parsed a              == what the enum `Parsed` says
 --   Reads r name letters a name' letters'
 --                             == the answer a, and every byte of both outputs afterwards
 -- Assumes nothing.
 use Rattle.std.specs.Prelude.{◌≡◌, Bool, true, false, not, ◌&&◌, cond, List, [], ◌∷◌, ℕ, ◌+◌, length, get_or, take, drop, eqb, leb}
 use Rattle.base_answers.specs.Numbers.{Room, Name, Line}
-use Rattle.base_answers.specs.Answer.{Answer, given, refused, test, first, output_after}
+use Rattle.base_answers.specs.Answer.{Answer, test, first, output_after}
 use Rattle.text_fasta.specs.Record.{newline, mark, leading, is_name, in_lines}
 use Rattle.text_fasta.specs.Writing.{letter_test}
-use Rattle.text_fasta.specs.declared.reading.Parsed.{Parsed}
-use Rattle.text_fasta.specs.declared.reading.Parsed.TheVariants.{Parts, Refused}
 
 abbrev pub no_break : ℕ → Bool
 no_break b = not (eqb b newline)
@@ -61,11 +58,7 @@ reading r names letters =
     ∷ [])
     (length (name_in r), length ls)
 
-abbrev pub says_parsed : Parsed → Answer (ℕ × ℕ)
-says_parsed (Parts n k) = given (n, k)
-says_parsed (Refused r) = refused r.number r.place
-
-pub record Reads (r name letters : List ℕ) (a : Parsed) (name' letters' : List ℕ) : Type 0 where
-  pub answer : says_parsed a ≡ reading r (length name) (length letters)
+pub record Reads (r name letters : List ℕ) (a : Answer (ℕ × ℕ)) (name' letters' : List ℕ) : Type 0 where
+  pub answer : a ≡ reading r (length name) (length letters)
   pub in_name : name' ≡ output_after (name_in r) name (reading r (length name) (length letters))
   pub in_letters : letters' ≡ output_after (letters_in (body_in r)) letters (reading r (length name) (length letters))

@@ -1,16 +1,13 @@
 -- Writing a record (02, §1): "Refusals, in this order: 20 Name …, 21 Letter with the count of letters before it …, 12."
 --   letter_test ls                     == that ls are letters, and else 21 with the count of letters before the first that is none
 --   writing name ls room              == what writing answers, where the output has `room` bytes: the record's length
---   says_recorded r                    == what the enum `Recorded` says
 --   Writes name ls before r after     == the answer r, and every byte of the output afterwards
 -- Assumes nothing.
 use Rattle.std.specs.Prelude.{◌≡◌, List, [], ◌∷◌, ℕ, length, leb}
 use Rattle.base_answers.specs.Numbers.{Room, Name, Letter}
-use Rattle.base_answers.specs.Answer.{Answer, given, refused, Test, test, first, output_after}
+use Rattle.base_answers.specs.Answer.{Answer, Test, test, first, output_after}
 use Rattle.base_letters.specs.Letters.{is_letter}
 use Rattle.text_fasta.specs.Record.{leading, is_name, are_letters, record_of}
-use Rattle.text_fasta.specs.declared.writing.Recorded.{Recorded}
-use Rattle.text_fasta.specs.declared.writing.Recorded.TheVariants.{Record, Refused}
 
 -- where ls is empty the count is 0: "no letter at all counts, at 0"
 abbrev pub letter_test : List ℕ → Test
@@ -22,10 +19,6 @@ writing name ls room =
     (test (is_name name) Name 0 ∷ letter_test ls ∷ test (leb (length (record_of name ls)) room) Room 0 ∷ [])
     (length (record_of name ls))
 
-abbrev pub says_recorded : Recorded → Answer ℕ
-says_recorded (Record n) = given n
-says_recorded (Refused r) = refused r.number r.place
-
-pub record Writes (name ls before : List ℕ) (r : Recorded) (after : List ℕ) : Type 0 where
-  pub answer : says_recorded r ≡ writing name ls (length before)
+pub record Writes (name ls before : List ℕ) (r : Answer ℕ) (after : List ℕ) : Type 0 where
+  pub answer : r ≡ writing name ls (length before)
   pub bytes : after ≡ output_after (record_of name ls) before (writing name ls (length before))

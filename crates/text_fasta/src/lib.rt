@@ -5,10 +5,9 @@
 pub mod reading;
 pub mod writing;
 
-ghost use Rattle.std.specs.Prelude.{◌≡◌, ◌≤◌};
+ghost use Rattle.std.specs.Prelude.{◌≡◌, ℕ, Bool, ◌<◌};
 ghost use Rattle.base_letters.specs.Letters.{is_letter};
 ghost use Rattle.text_fasta.specs.Record.{leading, are_all, is_printable, is_name};
-ghost use Rattle.text_fasta.specs.Inner.{LineEnd};
 
 const NEWLINE: u8 = 10;
 // What a record begins with.
@@ -26,62 +25,36 @@ pub const LINE_LETTERS: usize = 60;
 fn is_printable(byte: u8) -> bool
     ensures { result ≡ is_printable byte }
 {
-    if byte < FIRST_PRINTABLE {
-        return false;
-    }
-    byte <= LAST_PRINTABLE
+    (FIRST_PRINTABLE..=LAST_PRINTABLE).contains(&byte)
 }
 
-// How many bytes stand before the first that is no such character; all of them where each is.
-fn printables(bytes: &[u8]) -> usize
-    ensures { result ≡ leading is_printable bytes.now }
+// How many bytes stand before the first that fails a test; all of them where each passes.
+fn leading<F: Fn(u8) -> bool>(bytes: &[u8], passes: F) -> usize
+    requires { F.IsAlwaysCallable passes }
+    ensures { (ok : ℕ → Bool)
+        → ((b : ℕ) → b < 256 → (t : Bool) → F.post passes b t → t ≡ ok b)
+        → result ≡ leading ok bytes.now }
 {
-    let n = bytes.len();
-    let mut i = 0;
-    while i < n {
-        if !is_printable(bytes[i]) {
-            return i;
-        }
-        i += 1;
-    }
-    n
+    bytes
+        .iter()
+        .position(|b| !passes(*b))
+        .unwrap_or(bytes.len())
 }
 
 // Whether bytes are a name.
 fn is_name(name: &[u8]) -> bool
     ensures { result ≡ is_name name.now }
 {
-    let n = name.len();
-    if n == 0 {
-        return false;
-    }
-    if MOST_NAME < n {
-        return false;
-    }
-    printables(name) == n
+    (1..=MOST_NAME).contains(&name.len()) && leading(name, is_printable) == name.len()
 }
 
 // Whether bytes are letters alone. Each is looked at, with no way out before the last, so that the compiler can look at many at once.
 fn are_letters(bytes: &[u8]) -> bool
     ensures { result ≡ are_all is_letter bytes.now }
 {
-    let n = bytes.len();
     let mut all = true;
-    let mut i = 0;
-    while i < n {
-        all = all & base_letters::is_letter(bytes[i]);
-        i += 1;
+    for b in bytes {
+        all &= base_letters::is_letter(*b);
     }
     all
-}
-
-// Of n letters, where the line ends that begins at the letter `at`: it is full, or the last.
-fn line_end(at: usize, n: usize) -> usize
-    requires { at ≤ n }
-    ensures { LineEnd at n result }
-{
-    if n - at < LINE_LETTERS {
-        return n;
-    }
-    at + LINE_LETTERS
 }

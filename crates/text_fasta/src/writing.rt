@@ -1,52 +1,21 @@
 // Writing a record: from a name and letters to its bytes at the start of a lent output.
 ghost use Rattle.std.specs.Prelude.{◌≡◌, true, [], ◌∷◌, ◌++◌, ◌+◌, ◌≤◌, ◌<◌, length, leb};
-ghost use Rattle.base_answers.specs.Answer.{first, sound, says_held};
+ghost use Rattle.base_answers.specs.Answer.{first, sound, says, says_held};
 ghost use Rattle.base_letters.specs.Letters.{is_letter};
 ghost use Rattle.base_text.specs.Putting.{Put};
 ghost use Rattle.text_fasta.specs.Record.{newline, most_name, leading, is_name, are_letters, lines_for, in_lines, record_of};
 ghost use Rattle.text_fasta.specs.Writing.{letter_test, Writes};
 
-use base_answers::{Held, Refusal};
-
-// What writing answers: the record's length, or the refusal.
-#[derive(Clone, Copy)]
-pub enum Recorded {
-    Record(usize),
-    Refused(Refusal),
-}
-
-// How many letters stand before the first byte that is none.
-fn letters_before(bytes: &[u8]) -> usize
-    ensures { result ≡ leading is_letter bytes.now }
-{
-    let n = bytes.len();
-    let mut i = 0;
-    while i < n {
-        if !base_letters::is_letter(bytes[i]) {
-            return i;
-        }
-        i += 1;
-    }
-    n
-}
+use base_answers::Refusal;
 
 // Whether there are letters and nothing else; or the refusal, with the count of letters before the first byte that is none.
-fn letters_hold(letters: &[u8]) -> Held
+fn letters_hold(letters: &[u8]) -> Result<(), Refusal>
     ensures { says_held result ≡ first (letter_test letters.now ∷ []) sound }
 {
-    if letters.len() == 0 {
-        return Held::Refused(Refusal {
-            number: base_answers::LETTER,
-            place: 0,
-        });
+    if !letters.is_empty() && crate::are_letters(letters) {
+        return Ok(());
     }
-    if crate::are_letters(letters) {
-        return Held::Holds;
-    }
-    Held::Refused(Refusal {
-        number: base_answers::LETTER,
-        place: letters_before(letters),
-    })
+    Err(Refusal::Letter(crate::leading(letters, base_letters::is_letter)))
 }
 
 // Whether a room has the bytes of a record with k bytes of name and n letters. No sum is taken that n could make too large.
@@ -54,15 +23,11 @@ fn fits(k: usize, n: usize, room: usize) -> bool
     requires { (k ≤ most_name) × (0 < n) }
     ensures { result ≡ leb (k + 2 + (n + lines_for n)) room }
 {
-    if room < k + 2 {
-        return false;
-    }
-    let left = room - (k + 2);
-    let lines = (n - 1) / crate::LINE_LETTERS + 1;
-    if left < lines {
-        return false;
-    }
-    n <= left - lines
+    let lines = n.div_ceil(crate::LINE_LETTERS);
+    let left = room
+        .checked_sub(k + 2)
+        .and_then(|left| left.checked_sub(lines));
+    left.is_some_and(|left| n <= left)
 }
 
 // Puts a line and its end.
@@ -80,13 +45,9 @@ fn put_lines(out: &mut [u8], at: usize, letters: &[u8]) -> usize
     requires { at + length (in_lines letters.now) ≤ length out.old }
     ensures { Put (in_lines letters.now) at out.old result out.new }
 {
-    let n = letters.len();
     let mut to = at;
-    let mut i = 0;
-    while i < n {
-        let end = crate::line_end(i, n);
-        to = put_line(out, to, &letters[i..end]);
-        i = end;
+    for line in letters.chunks(crate::LINE_LETTERS) {
+        to = put_line(out, to, line);
     }
     to
 }
@@ -102,31 +63,23 @@ fn put_record(out: &mut [u8], name: &[u8], letters: &[u8]) -> usize
 }
 
 // Writes what is a name and letters.
-fn write_named(name: &[u8], letters: &[u8], out: &mut [u8]) -> Recorded
+fn write_named(name: &[u8], letters: &[u8], out: &mut [u8]) -> Result<usize, Refusal>
     requires { (is_name name.now ≡ true) × (are_letters letters.now ≡ true) }
-    ensures { Writes name.now letters.now out.old result out.new }
+    ensures { Writes name.now letters.now out.old (says result) out.new }
 {
     if !fits(name.len(), letters.len(), out.len()) {
-        return Recorded::Refused(Refusal {
-            number: base_answers::ROOM,
-            place: 0,
-        });
+        return Err(Refusal::Room);
     }
-    Recorded::Record(put_record(out, name, letters))
+    Ok(put_record(out, name, letters))
 }
 
 // The record of a name and letters at the start of the output, with its length; or the refusal, and then no byte of the output differs.
-pub fn write(name: &[u8], letters: &[u8], out: &mut [u8]) -> Recorded
-    ensures { Writes name.now letters.now out.old result out.new }
+pub fn write(name: &[u8], letters: &[u8], out: &mut [u8]) -> Result<usize, Refusal>
+    ensures { Writes name.now letters.now out.old (says result) out.new }
 {
     if !crate::is_name(name) {
-        return Recorded::Refused(Refusal {
-            number: base_answers::NAME,
-            place: 0,
-        });
+        return Err(Refusal::Name);
     }
-    match letters_hold(letters) {
-        Held::Refused(r) => Recorded::Refused(r),
-        Held::Holds => write_named(name, letters, out),
-    }
+    letters_hold(letters)?;
+    write_named(name, letters, out)
 }

@@ -5,7 +5,7 @@ use mathlib.Core.List.{List, []}
 use Prim.Native.Nat.{ℕ, ◌*◌, ◌≤◌, ◌<◌}
 use native.Mathlib.Omega.{arith}
 use lib.ListN.{length, get_or, take}
-use Rattle.base_answers.specs.Answer.{given}
+use Rattle.base_answers.specs.Answer.{Answer, given}
 use Rattle.base_answers.proofs.Laws.{first_both, first_given_any}
 use Rattle.card_entries.specs.declared.Entry.{Entry}
 use Rattle.card_entries.specs.declared.Format.{Format}
@@ -16,8 +16,7 @@ use Rattle.card_entries.specs.Bounds.{least_entries}
 use Rattle.card_entries.specs.Hold.{format_for, ListsHold}
 use Rattle.card_layout.specs.Layout.{told_by, entry_at}
 use Rattle.card_entries.proofs.Laws.{within_both}
-use Rattle.card_writer.specs.declared.Written.{Written}
-use Rattle.card_writer.specs.Writing.{says_written, Writes}
+use Rattle.card_writer.specs.Writing.{Writes}
 use Rattle.card_writer.proofs.WritingLaws.{wrote_accepted}
 use Rattle.card_writer.proofs.RoundTrip.{made_is}
 use Rattle.text_probes.specs.Line.{most_line}
@@ -33,8 +32,8 @@ use Rattle.text_import.proofs.WordBack.{letters_value}
 use Rattle.text_probes.specs.Faults.{HasMark}
 use Rattle.text_import.proofs.SoundCard.{slot_for, words_many, told_in, entry_in, own_line, own_text}
 
-module _ {limit : ℕ} {text before after : List ℕ} {r : Written} {n : ℕ}
-    (did : Imports limit text before r after) (said : says_written r ≡ given n) where
+module _ {limit : ℕ} {text before after : List ℕ} {r : Answer ℕ} {n : ℕ}
+    (did : Imports limit text before r after) (said : r ≡ given n) where
   -- the text is sound
   pub imported_sound : scanning text ≡ given (outline_of (lines_in text))
   unfolding importing

@@ -8,9 +8,8 @@ use lib.ListN.{length, take, length-map}
 use lib.Seq.{take_all}
 use lib.Dec.{eqb}
 use borrow.Author.Tests.{eq-eqb}
-use Rattle.base_answers.specs.declared.Refusal.{Refusal}
 use Rattle.base_answers.specs.Numbers.{WordLength, Count}
-use Rattle.base_answers.specs.Answer.{given, refused, sound}
+use Rattle.base_answers.specs.Answer.{Answer, given, refused, sound}
 use Rattle.base_answers.proofs.Laws.{first_holds, first_refused, first_refused_any, first_given_any, first_value}
 use Rattle.card_entries.specs.Slot.{slot_from}
 use Rattle.card_entries.specs.Fault.{pair, span, least_length, most_length}
@@ -20,8 +19,6 @@ use Rattle.card_layout.proofs.CardLaws.{length_card}
 use Rattle.card_lists.specs.Lists.{same_length}
 use Rattle.card_entries.specs.Hold.{format_for}
 use Rattle.card_lists.proofs.Laws.{length_wrong, count_wrong}
-use Rattle.card_writer.specs.declared.Written.{Written}
-use Rattle.card_writer.specs.declared.Written.TheVariants.{Refused}
 use Rattle.card_writer.specs.Writing.{writing, Writes}
 use Rattle.card_writer.proofs.WritingLaws.{writing_is, lists_refused}
 use Rattle.text_probes.specs.declared.scanning.Outline.{Outline}
@@ -56,11 +53,11 @@ card_long limit text room e =
     ∙ first_value _ _ _ e)
 
 module _ (limit : ℕ) (text before : List ℕ) where
-  pub import_refused : {n : Refusal} → scanning text ≡ refused n.number n.place → Imports limit text before (Refused n) before
+  pub import_refused : {n p : ℕ} → scanning text ≡ refused n p → Imports limit text before (refused n p) before
   import_refused e = let says = text_refused limit text (length before) e in record { answer = sym says; bytes = rw says }
 
   module _ {s : Outline} (holds : scanning text ≡ given s) where
-    pub import_sound : {r : Written} {after : List ℕ}
+    pub import_sound : {r : Answer ℕ} {after : List ℕ}
         → Writes limit (kind_of s.mark) s.l (words_in text) (ones_in text) (twos_in text) before r after
         → Imports limit text before r after
     unfolding card_in
@@ -71,12 +68,6 @@ module _ (limit : ℕ) (text before : List ℕ) where
           answer = own.answer ∙ sym (importing_writes limit text (length before) holds);
           bytes = own.bytes ∙ rw (importing_writes limit text (length before) holds) refl;
         }
-
--- of lists whose second places were closed
-pub closed_writes : (mark : ℕ) (twos : List ℕ) {limit l kind : ℕ} {words ones closed before after : List ℕ} {r : Written} → kind ≡ kind_of mark
-    → closed ≡ closed_for kind ones twos → Writes limit kind l words ones closed before r after
-    → Writes limit (kind_of mark) l words ones (closed_for (kind_of mark) ones twos) before r after
-closed_writes mark twos is did wrote = rw is at (rw did at wrote)
 
 -- ---- the rules of a card
 
@@ -106,11 +97,11 @@ module _ (limit : ℕ) (text : List ℕ) {s : Outline} (holds : scanning text �
       (eq-eqb (length (words_in text)) (length (twos_in text)) (words ∙ sym twos))
 
   pub sound_length : {before : List ℕ} → is_within least_length most_length s.l ≡ false
-      → Writes limit (kind_of s.mark) s.l (words_in text) (ones_in text) (twos_in text) before (Refused (record { number = WordLength; place = 0 })) before
+      → Writes limit (kind_of s.mark) s.l (words_in text) (ones_in text) (twos_in text) before (refused WordLength 0) before
   sound_length e = lists_refused (length_wrong limit (kind_of s.mark) s.l _ _ _ (is_kind_lem s.mark) e)
 
   pub sound_many : {before : List ℕ} → is_within least_length most_length s.l ≡ true → is_within least_entries limit s.m ≡ false
-      → Writes limit (kind_of s.mark) s.l (words_in text) (ones_in text) (twos_in text) before (Refused (record { number = Count; place = 0 })) before
+      → Writes limit (kind_of s.mark) s.l (words_in text) (ones_in text) (twos_in text) before (refused Count 0) before
   sound_many letters e =
       lists_refused (count_wrong limit (kind_of s.mark) s.l _ _ _ (is_kind_lem s.mark) letters lists_same (rw words_long e))
 
@@ -119,7 +110,7 @@ module _ (limit : ℕ) (text : List ℕ) {s : Outline} (holds : scanning text �
     all_lines : take s.m (lines_in text) ≡ lines_in text
     all_lines = take_all s.m (lines_in text) (omega (arith, length-map (lines_of text) line_of, sound_count text holds))
 
-    pub sound_written : {before after : List ℕ} {r : Written} → s.m ≤ length words → s.m ≤ length ones → s.m ≤ length twos → s.l ≤ most_length
+    pub sound_written : {before after : List ℕ} {r : Answer ℕ} → s.m ≤ length words → s.m ≤ length ones → s.m ≤ length twos → s.l ≤ most_length
         → Writes limit (kind_of s.mark) s.l (take s.m words) (take s.m ones)
         (closed_for (kind_of s.mark) (take s.m ones) (take s.m twos)) before r after
         → Writes limit (kind_of s.mark) s.l (words_in text) (ones_in text) (twos_in text) before r after

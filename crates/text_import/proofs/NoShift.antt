@@ -4,14 +4,12 @@ use mathlib.Core.Path.{◌≡◌, ap, ◌∙◌}
 use mathlib.Core.List.{List}
 use Prim.Native.Nat.{ℕ, ◌+◌, ◌<◌}
 use lib.ListN.{length, take}
-use Rattle.base_answers.specs.Answer.{given}
+use Rattle.base_answers.specs.Answer.{Answer, given}
 use Rattle.card_entries.specs.declared.Entry.{Entry}
 use Rattle.card_entries.specs.declared.Places.{Places}
 use Rattle.card_entries.specs.Entry.{allows}
 use Rattle.card_entries.proofs.Allowed.{entry_places}
 use Rattle.card_layout.specs.Layout.{entry_at}
-use Rattle.card_writer.specs.declared.Written.{Written}
-use Rattle.card_writer.specs.Writing.{says_written}
 use Rattle.text_probes.specs.declared.scanning.Outline.{Outline}
 use Rattle.text_probes.specs.Line.{lists}
 use Rattle.text_probes.specs.Lines.{lines_of, line_in}
@@ -32,7 +30,7 @@ module _ (text : List ℕ) {s : Outline} (holds : scanning text ≡ given s) whe
       ∙ entry_no_shift (kind_in text) (line_in text e).listed own.fine.small own.no_zero own.mark q
 
 -- "each listed place p means card place p−1"
-pub no_shift : {limit : ℕ} {text before after : List ℕ} {r : Written} {n : ℕ}
-    → Imports limit text before r after → says_written r ≡ given n → (e : ℕ) → e < length (lines_of text) → (q : ℕ)
+pub no_shift : {limit : ℕ} {text before after : List ℕ} {r : Answer ℕ} {n : ℕ}
+    → Imports limit text before r after → r ≡ given n → (e : ℕ) → e < length (lines_of text) → (q : ℕ)
     → allows (entry_at (take n after) e).places q ≡ lists (line_in text e).listed (q + 1)
 no_shift {text} did said e h q = rw (imported_card did said) (sound_no_shift text (imported_sound did said) e h q)

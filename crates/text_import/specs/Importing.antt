@@ -15,8 +15,6 @@ use Rattle.card_layout.specs.Layout.{size_of}
 use Rattle.card_layout.specs.Card.{card_of}
 use Rattle.card_lists.specs.Lists.{lists_tests}
 use Rattle.card_entries.specs.Hold.{format_for}
-use Rattle.card_writer.specs.declared.Written.{Written}
-use Rattle.card_writer.specs.Writing.{says_written}
 use Rattle.text_probes.specs.Lines.{lines_in}
 use Rattle.text_probes.specs.Testing.{outline_of, text_tests, kind_of}
 use Rattle.text_probes.specs.Listing.{words_of, ones_of, twos_of}
@@ -48,8 +46,8 @@ importing limit text room =
     ++ (test (leb (size_of (length (words_in text))) room) Room 0 ∷ [])))
     (size_of (length (words_in text)))
 
-pub record Imports (limit : ℕ) (text before : List ℕ) (r : Written) (after : List ℕ) : Type 0 where
-  pub answer : says_written r ≡ importing limit text (length before)
+pub record Imports (limit : ℕ) (text before : List ℕ) (r : Answer ℕ) (after : List ℕ) : Type 0 where
+  pub answer : r ≡ importing limit text (length before)
   pub bytes : after ≡ output_after (card_in text) before (importing limit text (length before))
 
 -- "23 Text, 24 Mixed, 25 Uneven, 26 Zero"; then of the card 6, 7 and 11, then 12: 5, 10 and 13 do not occur

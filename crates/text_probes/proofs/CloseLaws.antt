@@ -5,20 +5,17 @@ use mathlib.Core.List.{List, [], ◌∷◌, ◌++◌, append-nil}
 use Prim.Native.Nat.{ℕ, zero, suc, ◌+◌, ◌≤◌, ◌<◌}
 use native.Mathlib.Numerals.{add-one}
 use native.Mathlib.Omega.{arith}
-use lib.ListN.{length, get_or, take, drop, set, length-append, length-drop, drop_of_length-le}
-use lib.Seq.{length-take-le, take_all}
+use lib.ListN.{length, get_or, take, drop, set, drop_of_length-le}
+use lib.Seq.{take_all}
 use lib.Dec.{eqb}
 use borrow.Author.Tests.{eq-eqb, ne_eqb}
-use Rattle.card_entries.specs.Fault.{span, no_place}
-use Rattle.text_probes.specs.Keeping.{closed, closed_for}
+use Rattle.card_entries.specs.Fault.{no_place}
+use Rattle.text_probes.specs.Keeping.{closed}
 
 -- the first e are closed, the others as they were
 pub record Closed (ones before : List ℕ) (e : ℕ) (twos : List ℕ) : Type 0 where
   pub within : e ≤ length before
   pub stands : twos ≡ take e (closed ones before) ++ drop e before
-
-pub closed_none : (ones before : List ℕ) → Closed ones before 0 before
-closed_none ones before = record { within = omega arith; stands = refl }
 
 pub closed_length : (ones before : List ℕ) → length before ≡ length ones → length (closed ones before) ≡ length before
 closed_length [] [] h = refl
@@ -39,40 +36,23 @@ slot_is (p ∷ ps) (q ∷ qs) (suc e) h g =
     (rest.0, ap (λ (l : List ℕ). cond (eqb q no_place) p q ∷ l) rest.1)
 
 module _ {ones before : List ℕ} (same : length before ≡ length ones) {e : ℕ} {twos : List ℕ} (so_far : Closed ones before e twos) where
-  pub so_far_length : length twos ≡ length before
-  so_far_length =
-      rw so_far.stands (omega (
-        arith,
-        length-append (take e (closed ones before)) (drop e before),
-        closed_length ones before same,
-        so_far.within,
-        length-take-le e (closed ones before) (omega (arith, closed_length ones before same, so_far.within)),
-        length-drop e before,
-      ))
-
   module _ (h : e < length before) where
     here : get_or twos e 0 ≡ get_or before e 0
     here = ap (λ (l : List ℕ). get_or l e 0) so_far.stands ∙ (slot_is ones before e same h).0
 
-    pub closed_turn : {v : ℕ} → v ≡ cond (eqb (get_or twos e 0) no_place) (get_or ones e 0) (get_or twos e 0) → Closed ones before (e + 1) (set twos e v)
+    closed_turn : {v : ℕ} → v ≡ cond (eqb (get_or twos e 0) no_place) (get_or ones e 0) (get_or twos e 0) → Closed ones before (e + 1) (set twos e v)
     closed_turn is =
         let put = rw here at is in
         record { within = omega arith; stands = rw (add-one e) (rw put (rw so_far.stands (slot_is ones before e same h).1)) }
+
+    pub closed_filled : get_or twos e 0 ≡ no_place → Closed ones before (e + 1) (set twos e (get_or ones e 0))
+    closed_filled q = closed_turn (rw (eq-eqb (get_or twos e 0) no_place q) refl)
+
+    pub closed_kept : (get_or twos e 0 ≡ no_place → ⊥) → Closed ones before (e + 1) (set twos e (get_or twos e 0))
+    closed_kept n = closed_turn (rw (ne_eqb (get_or twos e 0) no_place n) refl)
 
   pub closed_all : length before ≤ e → twos ≡ closed ones before
   closed_all h =
       let all = take_all e (closed ones before) (omega (arith, closed_length ones before same)) in
       let none = drop_of_length-le before h in
       so_far.stands ∙ rw (all, none) (append-nil (closed ones before))
-
-pub last_missing : (one two : ℕ) → two ≡ no_place → one ≡ cond (eqb two no_place) one two
-last_missing one two e = rw (eq-eqb two no_place e)
-
-pub last_there : (one two : ℕ) → (two ≡ no_place → ⊥) → two ≡ cond (eqb two no_place) one two
-last_there one two n = rw (ne_eqb two no_place n)
-
-pub for_pair : (kind : ℕ) (ones twos : List ℕ) → (kind ≡ span → ⊥) → twos ≡ closed_for kind ones twos
-for_pair kind ones twos n = rw (ne_eqb kind span n)
-
-pub for_span : (kind : ℕ) (ones twos : List ℕ) → kind ≡ span → closed ones twos ≡ closed_for kind ones twos
-for_span kind ones twos e = rw (eq-eqb kind span e)

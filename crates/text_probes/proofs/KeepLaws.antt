@@ -1,42 +1,19 @@
 -- Laws of the entries that scanning keeps. Assumes nothing.
 use mathlib.Core.Path.{◌≡◌, refl, sym, ap, ◌∙◌}
-use mathlib.Core.Bool.{false}
 use mathlib.Core.List.{List, [], ◌∷◌, ◌++◌, map}
-use Prim.Native.Nat.{ℕ, zero, suc, ◌+◌, ◌≤◌, ◌<◌}
+use Prim.Native.Nat.{ℕ, zero, suc, ◌+◌, ◌<◌}
 use native.Mathlib.Numerals.{add-one}
 use native.Mathlib.Omega.{arith}
 use lib.ListN.{length, get_or, take, set, length-set}
 use lib.Seq.{take-suc}
-use lib.Dec.{eqb}
 use Rattle.card_entries.specs.Fault.{pair}
 use Rattle.text_probes.specs.declared.line.Marked.{Marked}
-use Rattle.text_probes.specs.declared.line.Marked.TheVariants.{Bare, Two, Run}
 use Rattle.text_probes.specs.Line.{Line}
-use Rattle.text_probes.specs.Testing.{has_zero}
 use Rattle.text_probes.specs.Listing.{one_of, two_of}
 use Rattle.text_probes.specs.Says.{kept}
 use Rattle.text_probes.specs.Keeping.{Holds, word_kept, one_kept, two_kept, Keeps}
-use Rattle.text_probes.proofs.NoShift.{some_both}
-
--- ---- places that are no 0
-
-module _ {y : Marked} (some_place : has_zero y ≡ false) where
-  pub above_bare : {p : ℕ} → y ≡ Bare p → 0 < p
-  above_bare {p} e = let h : eqb p 0 ≡ false = rw e at some_place in (some_both p 1 (rw h)).0
-
-  pub above_two : {p q : ℕ} → y ≡ Two p q → (0 < p) × (0 < q)
-  above_two {p} {q} e = some_both p q (rw e at some_place)
-
-  pub above_run : {p q : ℕ} → y ≡ Run p q → (0 < p) × (0 < q)
-  above_run {p} {q} e = some_both p q (rw e at some_place)
 
 -- ---- slots of a list
-
--- a slot that is not there
-pub set_beyond : (l : List ℕ) (e v : ℕ) → length l ≤ e → l ≡ set l e v
-set_beyond [] e v h = refl
-set_beyond (x ∷ l) zero v h = absurd (omega arith)
-set_beyond (x ∷ l) (suc e) v h = ap (λ (ys : List ℕ). x ∷ ys) (set_beyond l e v (omega arith))
 
 take_set : (l : List ℕ) (e v : ℕ) → e < length l → take (suc e) (set l e v) ≡ take e l ++ (v ∷ [])
 take_set [] e v h = absurd (omega arith)

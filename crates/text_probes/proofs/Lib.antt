@@ -1,7 +1,7 @@
 -- What is read is its text: `FindLaws`, `WordLaws`, `NumberLaws`, `ListedLaws`, `LineLaws`, `LengthLaws`. The lines of a text: `TextLaws`,
 -- `LinesLaws`, `FirstLaws`. The tests of a text: `TestLaws`, `ScanLaws`, `SoundLaws`, `MarkLaws`; that it is refused by its first line at fault:
--- `FaultLaws`, `LineFaults`, `FaultWords`, `RefusalNumbers`. For the functions of this crate: `SmallLaws`, `NumberCursor`, `WordCursor`,
--- `LineCursor`, `KeepLaws`, `ScanTurn`, `CloseLaws`, `KeptLaws`. `NoShift`: each listed place means the card place one less. `Examples`: worked ones.
+-- `FaultLaws`, `LineFaults`, `FaultWords`, `RefusalNumbers`. For the functions of this crate: `Cursor`, `WordCursor`,
+-- `KeepLaws`, `ScanTurn`, `CloseLaws`, `KeptLaws`. `NoShift`: each listed place means the card place one less. `Examples`: worked ones.
 pub mod FindLaws
 pub mod WordLaws
 pub mod NumberLaws
@@ -19,10 +19,8 @@ pub mod FaultLaws
 pub mod LineFaults
 pub mod FaultWords
 pub mod RefusalNumbers
-pub mod SmallLaws
-pub mod NumberCursor
+pub mod Cursor
 pub mod WordCursor
-pub mod LineCursor
 pub mod KeepLaws
 pub mod ScanTurn
 pub mod CloseLaws

@@ -14,10 +14,12 @@ use Rattle.text_probes.specs.declared.scanning.Outline.{Outline}
 use Rattle.text_probes.specs.Line.{Line}
 use Rattle.text_probes.specs.Lines.{line_of, lines_in}
 use Rattle.text_probes.specs.Testing.{line_mark, known, outline_of, scanning, kind_of}
-use Rattle.text_probes.proofs.SmallLaws.{kind_pair}
 use Rattle.text_probes.proofs.SoundLaws.{sound_outline, sound_line}
 use Rattle.text_probes.specs.Faults.{HasMark}
 use Rattle.text_probes.proofs.TextLaws.{line_in_lem, lines_many}
+
+kind_pair : (mark : ℕ) → (mark ≡ span → ⊥) → kind_of mark ≡ pair
+kind_pair mark n = rw (ne_eqb mark span n) refl
 
 -- ---- what is known of lines
 
@@ -72,10 +74,10 @@ module _ (text : List ℕ) {s : Outline} (holds : scanning text ≡ given s) whe
   pub pair_marked : HasMark text pair → kind_of (outline_of (lines_in text)).mark ≡ pair
   pair_marked has =
       let mark = its_mark (λ z. omega arith) has in
-      sym (kind_pair (outline_of (lines_in text)).mark (λ e. omega (arith, mark)))
+      kind_pair (outline_of (lines_in text)).mark (λ e. omega (arith, mark))
 
   -- "with neither a pair card"
   pub pair_unmarked : (kind_of (outline_of (lines_in text)).mark ≡ pair) ↔ (HasMark text span → ⊥)
   pair_unmarked =
       let mark : ℕ = (outline_of (lines_in text)).mark in
-      (λ e has. omega (arith, span_marked.1 has), λ n. sym (kind_pair mark (λ e. n (span_marked.0 ((kind_mark mark).1 e)))))
+      (λ e has. omega (arith, span_marked.1 has), λ n. kind_pair mark (λ e. n (span_marked.0 ((kind_mark mark).1 e))))

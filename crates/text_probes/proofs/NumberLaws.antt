@@ -36,17 +36,9 @@ module _ (v b : ℕ) (bs : List ℕ) where
   unfolding read_digits
   digits_more d s = rw d (rw s refl)
 
-  pub digits_beyond : is_digit b ≡ true → leb (next_value v b) most_number ≡ false → read_digits v (b ∷ bs) ≡ none
-  unfolding read_digits
-  digits_beyond d s = rw d (rw s refl)
-
   pub digits_end : is_digit b ≡ false → read_digits v (b ∷ bs) ≡ some (record { what = v; rest = b ∷ bs })
   unfolding read_digits
   digits_end d = rw d refl
-
-pub digits_none : (v : ℕ) → read_digits v [] ≡ some (record { what = v; rest = [] })
-unfolding read_digits
-digits_none v = refl
 
 -- ---- what is read
 

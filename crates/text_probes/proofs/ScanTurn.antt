@@ -20,7 +20,7 @@ use Rattle.text_probes.specs.Testing.{has_zero, said_tests, scanning}
 use Rattle.text_probes.specs.Listing.{one_of, two_of}
 use Rattle.text_probes.specs.Says.{Said, told_of, kept, outline_after}
 use Rattle.text_probes.specs.Keeping.{Keeps}
-use Rattle.text_probes.proofs.ScanLaws.{SoFar, scan_start, scan_end, scan_no_text, scan_refused, this_read, more_in, scan_rises, scan_goes_on}
+use Rattle.text_probes.proofs.ScanLaws.{SoFar, scan_empty, scan_start, scan_end, scan_no_text, scan_refused, this_read, more_in, scan_rises, scan_goes_on}
 use Rattle.text_probes.proofs.KeepLaws.{keeps_none, keeps_turn}
 
 -- ---- what is told of a line
@@ -131,3 +131,6 @@ module _ {text words₀ : List ℕ} {s : Outline} {at : ℕ} {lists : Lists} (sc
             ones_long = ap length put.1 ∙ length-set lists.ones s.m (one_of t.listed) ∙ scans.ones_long;
             twos_long = ap length put.2 ∙ length-set lists.twos s.m (two_of pair t.listed) ∙ scans.twos_long;
           }
+
+-- how scanning begins
+pub ruleset begins = (scan_empty, none_kept, scanning_none)

@@ -16,7 +16,7 @@ use Rattle.text_probes.specs.declared.scanning.Outline.{Outline}
 use Rattle.text_probes.specs.Line.{Line}
 use Rattle.text_probes.specs.Lines.{is_line, line_of}
 use Rattle.text_probes.specs.Testing.{mark_of, has_zero, line_mark, line_letters, known, outline_of, agree, said_tests, line_tests}
-use Rattle.text_probes.specs.Says.{outline_after, next_outline}
+use Rattle.text_probes.specs.Says.{next_outline}
 
 -- ---- one line
 
@@ -38,13 +38,6 @@ module _ (s : Outline) (letters : ℕ) (y : Marked) {A : Type 0} (a : A) where
       pub later_sound : has_zero y ≡ false → first (said_tests s letters y) a ≡ given a
       unfolding said_tests
       later_sound e = first_pass _ _ _ _ _ one-mark ∙ first_pass _ _ _ _ _ even ∙ first_last _ _ _ _ (ap not e)
-
--- the outline with it
-pub outline_after_lem : (s : Outline) (letters : ℕ) (y : Marked) {mark k l : ℕ} → mark ≡ mark_of y → k ≡ cond (eqb s.mark 0) mark s.mark
-    → l ≡ cond (eqb s.l 0) letters s.l → record { mark = k; l = l; m = s.m + 1 } ≡ outline_after s letters y
-outline_after_lem s letters y {mark} {k} marked is-mark is-l =
-    let marks : k ≡ (outline_after s letters y).mark = is-mark ∙ ap (λ (n : ℕ). cond (eqb s.mark 0) n s.mark) marked in
-    λ i. record { mark = marks i; l = is-l i; m = s.m + 1 }
 
 -- with its text
 module _ (s : Outline) (bs : List ℕ) {A : Type 0} (a : A) where

@@ -1,6 +1,6 @@
 // The entries of a text's lines, kept in lent lists.
-ghost use Rattle.std.specs.Prelude.{◌≡◌, false, cond, length, set, eqb};
-ghost use Rattle.card_entries.specs.Fault.{pair, no_place};
+ghost use Rattle.std.specs.Prelude.{◌≡◌, false, length, set};
+ghost use Rattle.card_entries.specs.Fault.{pair};
 ghost use Rattle.text_probes.specs.Testing.{has_zero};
 ghost use Rattle.text_probes.specs.Listing.{one_of, two_of};
 ghost use Rattle.text_probes.specs.Keeping.{closed, closed_for};
@@ -13,9 +13,7 @@ fn one_of(listed: Marked) -> u16
     ensures { result ≡ one_of listed }
 {
     match listed {
-        Marked::Bare(p) => p - 1,
-        Marked::Two(p, _) => p - 1,
-        Marked::Run(p, _) => p - 1,
+        Marked::Bare(p) | Marked::Two(p, _) | Marked::Run(p, _) => p - 1,
     }
 }
 
@@ -26,8 +24,7 @@ fn other_of(listed: Marked) -> u16
 {
     match listed {
         Marked::Bare(_) => card_entries::NO_PLACE,
-        Marked::Two(_, q) => q - 1,
-        Marked::Run(_, q) => q - 1,
+        Marked::Two(_, q) | Marked::Run(_, q) => q - 1,
     }
 }
 
@@ -38,21 +35,9 @@ pub fn keep(e: usize, t: Probe, words: &mut [u32], ones: &mut [u16], twos: &mut 
         × (twos.new ≡ set twos.old e (two_of pair t.listed)) }
 {
     if e < words.len() {
-        let listed = t.listed;
         words[e] = t.word;
-        ones[e] = one_of(listed);
-        twos[e] = other_of(listed);
-    }
-}
-
-// The last place of a run: where there is none, its first.
-fn last_of(one: u16, two: u16) -> u16
-    ensures { result ≡ cond (eqb two no_place) one two }
-{
-    if two == card_entries::NO_PLACE {
-        one
-    } else {
-        two
+        ones[e] = one_of(t.listed);
+        twos[e] = other_of(t.listed);
     }
 }
 
@@ -61,11 +46,10 @@ fn close(ones: &[u16], twos: &mut [u16])
     requires { length twos.old ≡ length ones.now }
     ensures { twos.new ≡ closed ones.now twos.old }
 {
-    let n = twos.len();
-    let mut e = 0;
-    while e < n {
-        twos[e] = last_of(ones[e], twos[e]);
-        e += 1;
+    for (e, two) in twos.iter_mut().enumerate() {
+        if *two == card_entries::NO_PLACE {
+            *two = ones[e];
+        }
     }
 }
 
@@ -74,8 +58,7 @@ pub fn close_for(kind: usize, ones: &[u16], twos: &mut [u16])
     requires { length twos.old ≡ length ones.now }
     ensures { twos.new ≡ closed_for kind ones.now twos.old }
 {
-    if kind != card_entries::SPAN {
-        return;
+    if kind == card_entries::SPAN {
+        close(ones, twos);
     }
-    close(ones, twos)
 }

@@ -1,29 +1,23 @@
 // The tests of a text, line by line.
-ghost use Rattle.std.specs.Prelude.{◌≡◌, cond, ◌||◌, ◌+◌, ◌^◌, ◌<◌, length, eqb};
-ghost use Rattle.base_answers.specs.Answer.{given, first};
+ghost use Rattle.std.specs.Prelude.{◌≡◌, cond, ◌+◌, ◌^◌, ◌<◌, length, eqb};
+ghost use Rattle.base_answers.specs.Answer.{given, first, says};
 ghost use Rattle.text_probes.specs.declared.scanning.Outline.{Outline};
 ghost use Rattle.text_probes.specs.Lines.{lines_in};
-ghost use Rattle.text_probes.specs.Says.{says_scanned, outline_after};
+ghost use Rattle.text_probes.specs.Says.{outline_after};
 ghost use Rattle.text_probes.specs.Testing.{mark_of, has_zero, agree, said_tests, scanning, kind_of};
 ghost use Rattle.text_probes.specs.Keeping.{Keeps};
 
-use crate::line::{Lined, Marked, Probe};
+use crate::line::{Marked, Probe};
 use crate::{keeping, line};
 use base_answers::Refusal;
 
 // What the lines say so far: the kind that a mark asks for (0: no mark yet), the letters of a word (0: no line yet), and how many they are.
+// What is not there is 0 and no `None`: `outline_of` and `known` of specs/Testing.antt say so, and by them the fault `Differs` of specs/Faults.antt.
 #[derive(Clone, Copy)]
 pub struct Outline {
     pub mark: usize,
     pub l: usize,
     pub m: usize,
-}
-
-// What the tests of lines answer.
-#[derive(Clone, Copy)]
-pub enum Scanned {
-    Sound(Outline),
-    Refused(Refusal),
 }
 
 // The kind that the mark of a line asks for, 0 where it has none.
@@ -37,24 +31,13 @@ fn mark_of(listed: Marked) -> usize
     }
 }
 
-// Whether one of two numbers is 0.
-fn is_zero(p: u16, q: u16) -> bool
-    ensures { result ≡ (eqb p 0 || eqb q 0) }
-{
-    if p == 0 {
-        return true;
-    }
-    q == 0
-}
-
 // Whether a line lists place 0.
 fn has_zero(listed: Marked) -> bool
     ensures { result ≡ has_zero listed }
 {
     match listed {
         Marked::Bare(p) => p == 0,
-        Marked::Two(p, q) => is_zero(p, q),
-        Marked::Run(p, q) => is_zero(p, q),
+        Marked::Two(p, q) | Marked::Run(p, q) => p == 0 || q == 0,
     }
 }
 
@@ -62,13 +45,7 @@ fn has_zero(listed: Marked) -> bool
 fn agrees(a: usize, b: usize) -> bool
     ensures { result ≡ agree a b }
 {
-    if a == 0 {
-        return true;
-    }
-    if b == 0 {
-        return true;
-    }
-    a == b
+    a == 0 || b == 0 || a == b
 }
 
 // The first of the two that is there.
@@ -79,32 +56,23 @@ fn first_known(a: usize, b: usize) -> usize
 }
 
 // The tests of a line after its text, where the lines before it have this outline; and the outline with it.
-fn line_after(s: Outline, t: Probe) -> Scanned
+#[tactic(auto, using(base_answers::proofs::Laws::first_tests), unfolding(crate::specs::Testing::said_tests))]
+fn line_after(s: Outline, t: Probe) -> Result<Outline, Refusal>
     requires { s.m + 1 < 2 ^ 64 }
-    ensures { says_scanned result ≡ first (said_tests s t.letters t.listed) (outline_after s t.letters t.listed) }
+    ensures { says result ≡ first (said_tests s t.letters t.listed) (outline_after s t.letters t.listed) }
 {
     let line = s.m + 1;
-    let listed = t.listed;
-    let mark = mark_of(listed);
+    let mark = mark_of(t.listed);
     if !agrees(s.mark, mark) {
-        return Scanned::Refused(Refusal {
-            number: base_answers::MIXED,
-            place: line,
-        });
+        return Err(Refusal::Mixed(line));
     }
     if !agrees(s.l, t.letters) {
-        return Scanned::Refused(Refusal {
-            number: base_answers::UNEVEN,
-            place: line,
-        });
+        return Err(Refusal::Uneven(line));
     }
-    if has_zero(listed) {
-        return Scanned::Refused(Refusal {
-            number: base_answers::ZERO,
-            place: line,
-        });
+    if has_zero(t.listed) {
+        return Err(Refusal::Zero(line));
     }
-    Scanned::Sound(Outline {
+    Ok(Outline {
         mark: first_known(s.mark, mark),
         l: first_known(s.l, t.letters),
         m: line,
@@ -113,19 +81,21 @@ fn line_after(s: Outline, t: Probe) -> Scanned
 
 // The tests of a text, and the outline of its lines; where the lent lists have room for an entry of each line, these are put there, each as on a
 // pair list.
-pub fn scan(text: &[u8], words: &mut [u32], ones: &mut [u16], twos: &mut [u16]) -> Scanned
+#[tactic(auto, using(crate::proofs::ScanTurn::begins))]
+pub fn scan(
+    text: &[u8],
+    words: &mut [u32],
+    ones: &mut [u16],
+    twos: &mut [u16],
+) -> Result<Outline, Refusal>
     requires { (length ones.old ≡ length words.old) × (length twos.old ≡ length words.old) }
-    ensures says { says_scanned result ≡ scanning text.now }
+    ensures says { says result ≡ scanning text.now }
     ensures keeps { (s : Outline)
         → scanning text.now ≡ given s
         → Keeps (lines_in text.now) s.m words.new ones.new twos.new }
 {
-    let n = text.len();
-    if n == 0 {
-        return Scanned::Refused(Refusal {
-            number: base_answers::TEXT,
-            place: 1,
-        });
+    if text.is_empty() {
+        return Err(Refusal::Text(1));
     }
     let mut s = Outline {
         mark: 0,
@@ -133,26 +103,17 @@ pub fn scan(text: &[u8], words: &mut [u32], ones: &mut [u16], twos: &mut [u16]) 
         m: 0,
     };
     let mut at = 0;
-    while at < n {
-        let Lined::Line(t) = line::read_line(text, at) else {
-            return Scanned::Refused(Refusal {
-                number: base_answers::TEXT,
-                place: s.m + 1,
-            });
+    // A line says where the next one begins, so no range has the lines.
+    while at < text.len() {
+        let Some(t) = line::read_line(text, at) else {
+            return Err(Refusal::Text(s.m + 1));
         };
         let e = s.m;
-        match line_after(s, t) {
-            Scanned::Refused(r) => {
-                return Scanned::Refused(r);
-            }
-            Scanned::Sound(next) => {
-                s = next;
-            }
-        }
+        s = line_after(s, t)?;
         keeping::keep(e, t, words, ones, twos);
         at = t.end;
     }
-    Scanned::Sound(s)
+    Ok(s)
 }
 
 // The kind of the card of a list with this mark.

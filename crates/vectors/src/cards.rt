@@ -1,40 +1,34 @@
 // The records that set the card: to bytes of their own, or to what the writer makes of lists.
-ghost use Rattle.std.specs.Prelude.{◌≡◌, false, ◌≤◌, length};
+ghost use Rattle.std.specs.Prelude.{◌≡◌, ◌≤◌, IfSome, None, length};
 
 use crate::writing;
-use crate::writing::Wrote;
-use card_writer::Written;
 use std::io::{Read, Write};
 use test_records::input::FIELDS;
 use test_records::lent::SLOTS;
 use test_records::{input, output};
 
-// What a record leaves: how many bytes the card has, and whether there is more to read.
-#[derive(Clone, Copy)]
-pub struct Turn {
-    pub n: usize,
-    pub more: bool,
-}
-
 // A record that is not one ends the run.
-pub fn bad(to: &mut impl Write) -> Turn
-    ensures { (result.n ≡ 0) × (result.more ≡ false) }
+pub fn bad(to: &mut impl Write) -> Option<usize>
+    ensures { result ≡ None }
 {
     output::text(to, b"bad record\n");
-    Turn { n: 0, more: false }
+    None
 }
 
-// Sets the card to the n bytes that follow.
-pub fn set_card(from: &mut impl Read, to: &mut impl Write, card: &mut [u8], n: usize) -> Turn
-    ensures { result.n ≤ length card.new }
+// Sets the card to the n bytes that follow. What a record leaves is how many bytes the card has, where there is more to read.
+pub fn set_card(
+    from: &mut impl Read,
+    to: &mut impl Write,
+    card: &mut [u8],
+    n: usize,
+) -> Option<usize>
+    ensures { IfSome result (λ n. n ≤ length card.new) }
 {
-    if card.len() < n {
-        return bad(to);
+    if n <= card.len() && input::fill(from, &mut card[..n]) {
+        Some(n)
+    } else {
+        bad(to)
     }
-    if !input::fill(from, &mut card[..n]) {
-        return bad(to);
-    }
-    Turn { n, more: true }
 }
 
 // Sets the card to the one that the writer makes of the lists that follow, of as many slots as the fields say.
@@ -43,18 +37,15 @@ pub fn write_card(
     to: &mut impl Write,
     card: &mut [u8],
     fields: &[u8; FIELDS],
-) -> Turn
-    ensures { result.n ≤ length card.new }
+) -> Option<usize>
+    ensures { IfSome result (λ n. n ≤ length card.new) }
 {
-    let m = card_block::two_at(fields, 16) as usize;
+    let m = usize::from(card_block::two_at(fields, 16));
     if SLOTS < m {
         return bad(to);
     }
-    let Wrote::Is(w) = writing::write_lists(from, fields, m, m, m, card) else {
-        return bad(to);
-    };
-    let Written::Card(n) = w else {
-        return bad(to);
-    };
-    Turn { n, more: true }
+    match writing::write_lists(from, fields, m, m, m, card) {
+        Some(Ok(n)) => Some(n),
+        _ => bad(to),
+    }
 }

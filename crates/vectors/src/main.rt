@@ -29,10 +29,9 @@ mod cards;
 mod reading;
 mod writing;
 
-ghost use Rattle.std.specs.Prelude.{◌≤◌, length};
+ghost use Rattle.std.specs.Prelude.{◌≤◌, IfSome, length};
 ghost use Rattle.test_records.specs.Record.{field_bytes};
 
-use cards::Turn;
 use std::io::{Read, Write};
 use test_records::input::FIELDS;
 use test_records::{input, output};
@@ -59,7 +58,7 @@ fn bytes_of(tag: u8) -> usize
 }
 
 // Calls the operation of a tag that lends nothing, with the number x where it takes one, prints what it answers, and says whether there is such
-// a tag.
+// a tag. A tag stays the byte that the format above has: an enum would name each tag a second and a third time.
 fn plain(to: &mut impl Write, tag: u8, x: usize, card: &[u8]) -> bool {
     match tag {
         b'A' => reading::admit(to, card),
@@ -99,9 +98,9 @@ fn run(
     fields: &[u8; FIELDS],
     card: &mut [u8],
     n: usize,
-) -> Turn
+) -> Option<usize>
     requires { n ≤ length card.old }
-    ensures { result.n ≤ length card.new }
+    ensures { IfSome result (λ n. n ≤ length card.new) }
 {
     if tag == b'C' {
         return cards::set_card(from, to, card, card_block::four_at(fields, 0) as usize);
@@ -111,19 +110,19 @@ fn run(
     }
     if answer(from, to, tag, fields, &card[..n]) {
         output::text(to, b"\n");
-        return Turn { n, more: true };
+        return Some(n);
     }
     cards::bad(to)
 }
 
 // Reads the next record, and runs it.
-fn next(from: &mut impl Read, to: &mut impl Write, card: &mut [u8], n: usize) -> Turn
+fn next(from: &mut impl Read, to: &mut impl Write, card: &mut [u8], n: usize) -> Option<usize>
     requires { n ≤ length card.old }
-    ensures { result.n ≤ length card.new }
+    ensures { IfSome result (λ n. n ≤ length card.new) }
 {
     let mut tag = [0u8; 1];
     if !input::fill(from, &mut tag) {
-        return Turn { n: 0, more: false };
+        return None;
     }
     let mut fields = [0u8; FIELDS];
     let k = bytes_of(tag[0]);
@@ -136,14 +135,11 @@ fn next(from: &mut impl Read, to: &mut impl Write, card: &mut [u8], n: usize) ->
 // Runs the records in turn.
 fn run_all(from: &mut impl Read, to: &mut impl Write, card: &mut [u8]) {
     let mut n = 0;
-    let mut turns = TURNS;
-    while 0 < turns {
-        let t = next(from, to, card, n);
-        if !t.more {
+    for _ in 0..TURNS {
+        let Some(left) = next(from, to, card, n) else {
             return;
-        }
-        n = t.n;
-        turns -= 1;
+        };
+        n = left;
     }
 }
 

@@ -3,29 +3,12 @@ ghost use Rattle.std.specs.Prelude.{◌≤◌, length};
 ghost use Rattle.test_records.specs.Record.{slots};
 ghost use Rattle.vectors.specs.Within.{Within};
 
+use base_answers::Refusal;
 use card_entries::Format;
-use card_reader::Admitted;
-use card_writer::Written;
 use std::io::{Read, Write};
 use test_records::input::FIELDS;
 use test_records::lent::ROOM;
 use test_records::{input, lent, output};
-
-// What writing a card of lists comes to, or that the input ends before they do.
-#[derive(Clone, Copy)]
-pub enum Wrote {
-    Is(Written),
-    Cut,
-}
-
-// Tells what writing answers, the card's length or the refusal, and what the output holds afterwards.
-fn tell(to: &mut impl Write, w: Written, out: &[u8]) {
-    match w {
-        Written::Card(n) => output::one(to, b"written", n),
-        Written::Refused(r) => output::refused(to, r),
-    }
-    output::hash(to, out)
-}
 
 // Reads lists of a, b and c slots, and writes a card of them, with the kind and l that the fields say.
 pub fn write_lists(
@@ -35,23 +18,17 @@ pub fn write_lists(
     b: usize,
     c: usize,
     out: &mut [u8],
-) -> Wrote
+) -> Option<Result<usize, Refusal>>
     requires { (a ≤ slots) × (b ≤ slots) × (c ≤ slots) }
     ensures { Within (length out.old) result }
 {
-    let read = input::lists(from, a, b, c);
-    if !read.whole {
-        return Wrote::Cut;
-    }
-    let words = read.words;
-    let ones = read.ones;
-    let twos = read.twos;
-    Wrote::Is(card_writer::write(
+    let read = input::lists(from, a, b, c)?;
+    Some(card_writer::write(
         input::eight_at(fields, 0),
         input::eight_at(fields, 8),
-        &words[..a],
-        &ones[..b],
-        &twos[..c],
+        &read.words[..a],
+        &read.ones[..b],
+        &read.twos[..c],
         out,
     ))
 }
@@ -68,26 +45,24 @@ fn write_told(
 ) -> bool
     requires { (a ≤ slots) × (b ≤ slots) × (c ≤ slots) }
 {
-    let Wrote::Is(w) = write_lists(from, fields, a, b, c, out) else {
+    let Some(w) = write_lists(from, fields, a, b, c, out) else {
         return false;
     };
-    tell(to, w, out);
+    output::written(to, b"written", w, out);
     true
 }
 
-// The same with lists of as many slots, and an output of as many bytes, as the fields say, where there can be such.
+// The same with lists of as many slots, and an output of as many bytes, as the fields say, where there can be such. The functions of a record
+// stand alike, each with its own limits and call.
 pub fn of_lists(from: &mut impl Read, to: &mut impl Write, fields: &[u8; FIELDS]) -> bool {
-    let a = card_block::two_at(fields, 16) as usize;
-    let b = card_block::two_at(fields, 18) as usize;
-    let c = card_block::two_at(fields, 20) as usize;
-    let room = card_block::two_at(fields, 22) as usize;
-    if !input::are_few(a, b, c) {
+    let Some((a, b, c)) = input::slots_at(fields, 16) else {
         return false;
-    }
+    };
+    let room = usize::from(card_block::two_at(fields, 22));
     if ROOM < room {
         return false;
     }
-    let mut out = lent::bytes();
+    let mut out = lent::bytes::<ROOM>();
     write_told(from, to, fields, a, b, c, &mut out[..room])
 }
 
@@ -104,23 +79,23 @@ fn write_first(
 {
     let m = f.m;
     let w = card_writer::write(f.kind, f.l, &words[..m], &ones[..m], &twos[..m], out);
-    tell(to, w, out)
+    output::written(to, b"written", w, out)
 }
 
 // Admits the card into lists, and writes it again of what they hold then, into an output of as many bytes as the fields say; answers whether
 // there can be such an output.
 pub fn again(to: &mut impl Write, card: &[u8], fields: &[u8; FIELDS]) -> bool {
-    let room = card_block::two_at(fields, 0) as usize;
+    let room = usize::from(card_block::two_at(fields, 0));
     if ROOM < room {
         return false;
     }
     let mut words = lent::words();
     let mut ones = lent::places();
     let mut twos = lent::places();
-    let mut out = lent::bytes();
+    let mut out = lent::bytes::<ROOM>();
     match card_reader::listing::admit_into(card, &mut words, &mut ones, &mut twos) {
-        Admitted::Card(f) => write_first(to, f, &words, &ones, &twos, &mut out[..room]),
-        Admitted::Refused(r) => tell(to, Written::Refused(r), &out[..room]),
+        Ok(f) => write_first(to, f, &words, &ones, &twos, &mut out[..room]),
+        Err(r) => output::written(to, b"written", Err(r), &out[..room]),
     }
     true
 }

@@ -3,4 +3,4 @@ use Rattle.base_text.proofs.PuttingLaws.{put_then}
 use Rattle.base_text.proofs.put_refused.Goals as goal
 
 pub returns : goal.returns
-returns c = put_then c.put_text-number_at.ensures c.put_two.ensures.put
+returns c = rw (c.number.ensures, c.place.ensures) at (put_then c.put_text-number_at.ensures c.put_two.ensures.put)

@@ -1,26 +1,24 @@
 -- `build` meets its contract: the card is admitted into lists that have room for as many entries as a card may have, and built from them.
 -- Assumes nothing.
 use native.Mathlib.Omega.{arith}
+use Rattle.std.proofs.lemmas.Result.{err_from_is_err_and}
 use Rattle.build_card.proofs.CardLaws.{listed_few, listed_hold, listed_builds, refused_builds}
 use Rattle.build_card.proofs.build.Goals as goal
 
+pub lists-requires : goal.lists-requires
+lists-requires c = listed_few c.admit.ensures c.in_ok-f.was
+
 pub build_listed-requires : goal.build_listed-requires
 build_listed-requires c =
-    let did = c.admit_into.ensures in
-    let is = c.in-Card.is in
-    let few = listed_few did is in record {
-      m_in_bounds = (
-        omega (arith, few),
-        omega (arith, few),
-        omega (arith, few),
-      );
-      lists_hold = listed_hold did is;
-    }
+    let lists = c.lists.ensures in
+    rw (lists.words_are, lists.ones_are, lists.twos_are) (listed_hold c.admit.ensures c.in_ok-f.was)
 
-pub returns-in-Card : goal.returns-in-Card
-returns-in-Card c =
-    listed_builds c.admit_into.ensures c.in-Card.is c.build_listed.ensures
+pub returns : goal.returns
+returns c =
+    let lists = c.lists.ensures in
+    listed_builds c.admit.ensures c.in_ok-f.was (rw (lists.words_are, lists.ones_are, lists.twos_are) at c.build_listed.ensures)
 
-pub returns-in-Refused : goal.returns-in-Refused
-returns-in-Refused c =
-    refused_builds c.admit_into.ensures c.in-Refused.is (omega arith) (omega arith) (omega arith)
+pub returns-in_err-f : goal.returns-in_err-f
+returns-in_err-f c =
+    let p = err_from_is_err_and c.from_residual.result c.from_residual.ensures.1 in
+    rw (p.1, p.2) (refused_builds c.admit.ensures c.in_err-f.was (omega arith) (omega arith) (omega arith))

@@ -3,6 +3,7 @@ use native.Mathlib.Omega.{arith}
 use Rattle.pair_method.specs.PairMethod.{power_by}
 use Rattle.card_entries.proofs.HoldLaws.{hold_kind, lists_of_kind, few_entries}
 use Rattle.build_count.specs.ByKind.{on_pairs}
+use Rattle.build_count.proofs.CountingLaws.{given_power}
 use Rattle.build_count.proofs.count_from.Goals as goal
 
 pub pair-requires : goal.pair-requires
@@ -12,6 +13,4 @@ pair-requires c =
 
 pub returns : goal.returns
 returns c =
-    let found = c.pair in
-    on_pairs (power_by found.result.found found.result.choices)
-    (hold_kind c.requires.hold (λ e. omega arith)) found.ensures.many c.number_by.ensures
+    on_pairs (power_by c.pair.result) (hold_kind c.requires.hold (λ e. omega arith)) c.pair.ensures.many (given_power c.pair.result)

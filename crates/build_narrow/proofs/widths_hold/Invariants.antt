@@ -1,5 +1,5 @@
--- `widths_hold` meets its contract. The invariant: the tests of the entries that are left answer as those of all do. What falls is how many
--- are left. Assumes nothing.
+-- `widths_hold` meets its contract. The invariant: the tests of the entries that are left answer as those of all do. Assumes
+-- nothing.
 use mathlib.Core.Path.{◌≡◌}
 use Prim.Native.Nat.{◌-◌}
 use lib.ListN.{length}
@@ -12,8 +12,5 @@ use Rattle.build_narrow.proofs.widths_hold.Given as goal
 
 abbrev pub invariant-loop-e : goal.invariant-loop-e
 invariant-loop-e l =
-    first (in_turn (width_test (slot_from l.words l.ones l.twos)) l.e (length l.words - l.e)) sound
-    ≡ first (width_tests 0 (entries_in l.words l.ones l.twos)) sound
-
-abbrev pub decreases-loop-e : goal.decreases-loop-e
-decreases-loop-e l = length l.words - l.e
+    first (in_turn (width_test (slot_from l.lists.words.now l.lists.ones.now l.lists.twos.now)) l.e (length l.lists.words.now - l.e)) sound
+    ≡ first (width_tests 0 (entries_in l.lists.words.now l.lists.ones.now l.lists.twos.now)) sound

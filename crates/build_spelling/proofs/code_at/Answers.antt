@@ -17,6 +17,6 @@ returns-then-c-l c =
     let is = spell_first c.args.l c.args.words.now c.args.c c.requires.spells.some_word c.if-c-l.true in
     (rw c.words_of.ensures (sym is), mod-lt _ (omega arith))
 
-pub returns : goal.returns
-returns c =
+pub returns-else-c-l : goal.returns-else-c-l
+returns-else-c-l c =
     (sym (spell_later c.args.l c.args.words.now c.args.c c.if-c-l.false c.requires.c_in_bounds), mod-lt _ (omega arith))

@@ -1,5 +1,4 @@
--- `spell` meets its contract: one letter more stands in each turn (`filling_turn`). What falls is how many are left. Assumes nothing.
-use Prim.Native.Nat.{◌-◌}
+-- `spell` meets its contract: one letter more stands in each turn (`filling_turn`). Assumes nothing.
 use lib.ListN.{length, get_or}
 use Rattle.base_letters.specs.Letters.{letter_of}
 use Rattle.build_sequence.specs.Build.{spell}
@@ -8,6 +7,3 @@ use Rattle.build_spelling.proofs.spell.Given as goal
 
 abbrev pub invariant-loop-c : goal.invariant-loop-c
 invariant-loop-c l = Filling (λ k. letter_of (get_or (spell l.l l.words) k 0)) (length (spell l.l l.words)) l.c l.out
-
-abbrev pub decreases-loop-c : goal.decreases-loop-c
-decreases-loop-c l = l.n - l.c

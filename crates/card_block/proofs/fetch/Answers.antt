@@ -8,18 +8,18 @@ use Rattle.card_block.proofs.Laws.{holds_there, fetch_holds, fetch_refused, plac
 use Rattle.card_block.proofs.fetch.Goals as goal
 
 -- where the companion has answered that the fetch holds
-holds : (c : goal.In-Holds) → first (fetch_tests c.args.card.now c.args.k) sound ≡ given sound
-holds c = told_holds c.companion.ensures c.in-Holds.is
+holds : (c : goal.In-Ok) → first (fetch_tests c.args.card.now c.args.k) sound ≡ given sound
+holds c = told_holds c.companion.ensures c.in-Ok.is
 
 pub part-requires : goal.part-requires
 part-requires c = let start = c.args in omega (arith, holds_there start.card.now start.k sound sound (holds c))
 
-pub returns-in-Holds : goal.returns-in-Holds
-returns-in-Holds c =
-    let h = told_holds c.companion.ensures c.in-Holds.is in
+pub returns-in-Ok : goal.returns-in-Ok
+returns-in-Ok c =
+    let h = told_holds c.companion.ensures c.in-Ok.is in
     record { bytes = c.part.ensures.bytes ∙ sym (fetch_holds _ _ h); place = c.part.ensures.place ∙ sym (place_holds _ _ _ h) }
 
-pub returns-in-Refused : goal.returns-in-Refused
-returns-in-Refused c =
-    let h = told_refused c.companion.ensures c.in-Refused.is in
+pub returns-in-Err : goal.returns-in-Err
+returns-in-Err c =
+    let h = told_refused c.companion.ensures c.in-Err.is in
     record { bytes = sym (fetch_refused _ _ h); place = sym (place_refused _ _ _ h) }

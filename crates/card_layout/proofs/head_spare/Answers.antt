@@ -1,18 +1,14 @@
 -- `card_layout::head_spare` meets its contract. Assumes nothing.
-use mathlib.Core.Path.{◌∙◌}
+use mathlib.Core.Path.{ap, ◌∙◌}
 use native.Mathlib.Omega.{arith}
-use lib.ListN.{length-take}
-use Rattle.card_layout.proofs.Laws.{head_not_spare, head_spare_when}
+use borrow.Author.Tests.{ne_eqb}
+use Rattle.card_layout.specs.Layout.{is_zeros}
+use Rattle.card_layout.proofs.Laws.{head_not_spare, head_spare_when, part_between}
 use Rattle.card_layout.proofs.head_spare.Goals as goal
 
-pub returns-then-head-ne0 : goal.returns-then-head-ne0
-returns-then-head-ne0 c = head_not_spare _ c.if-head-ne0.true
+pub returns-then-head-eq0 : goal.returns-then-head-eq0
+returns-then-head-eq0 c =
+    c.is_zeros.ensures ∙ ap is_zeros (part_between c.args.head.now 6 (omega arith)) ∙ head_spare_when _ c.if-head-eq0.true
 
-pub slice_bounds-is_zeros-end : goal.slice_bounds-is_zeros-end
-slice_bounds-is_zeros-end c = simp length-take (omega arith)
-
-pub is_zeros-requires : goal.is_zeros-requires
-is_zeros-requires c = simp length-take (omega arith)
-
-pub returns : goal.returns
-returns c = c.is_zeros.ensures ∙ head_spare_when _ c.if-head-ne0.false
+pub returns-else-head-eq0 : goal.returns-else-head-eq0
+returns-else-head-eq0 c = ne_eqb _ _ c.if-head-eq0.false ∙ head_not_spare _ c.if-head-eq0.false

@@ -1,5 +1,5 @@
--- `card_lists::entries_hold` meets its contract. The invariant: the tests of the entries that are left answer as those of all do. What falls is
--- how many are left. Assumes nothing.
+-- `card_lists::entries_hold` meets its contract. The invariant: the tests of the entries that are left answer as those of all do.
+-- Assumes nothing.
 use mathlib.Core.Path.{◌≡◌}
 use mathlib.Core.List.{List}
 use Prim.Native.Nat.{ℕ, ◌-◌}
@@ -16,7 +16,4 @@ listed_tests f words ones twos e = entry_tests f e (slot_from words ones twos e)
 
 abbrev pub invariant-loop-e : goal.invariant-loop-e
 invariant-loop-e l =
-    first (in_turn (listed_tests l.f l.words l.ones l.twos) l.e (l.f.m - l.e)) sound ≡ first (in_turn (listed_tests l.f l.words l.ones l.twos) 0 l.f.m) sound
-
-abbrev pub decreases-loop-e : goal.decreases-loop-e
-decreases-loop-e l = l.f.m - l.e
+    first (in_turn (listed_tests l.f l.lists.words.now l.lists.ones.now l.lists.twos.now) l.e (l.f.m - l.e)) sound ≡ first (in_turn (listed_tests l.f l.lists.words.now l.lists.ones.now l.lists.twos.now) 0 l.f.m) sound

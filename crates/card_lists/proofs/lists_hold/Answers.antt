@@ -1,9 +1,6 @@
 -- `card_lists::lists_hold` meets its contract: each return is one law of `lists_tests`, from what the tests before it say. Assumes nothing.
 use mathlib.Core.Path.{sym, ◌∙◌}
-use native.Mathlib.Omega.{arith}
-use Rattle.card_entries.specs.Fault.{least_length, most_length}
-use Rattle.card_entries.proofs.Laws.{within_both}
-use Rattle.card_lists.proofs.Laws.{kind_wrong, length_wrong, lists_wrong, count_wrong, lists_go_on, lengths_same}
+use Rattle.card_lists.proofs.Laws.{kind_wrong, length_wrong, lists_wrong, count_wrong, lists_go_on}
 use Rattle.card_lists.proofs.lists_hold.Goals as goal
 
 pub returns-then-not-is_kind : goal.returns-then-not-is_kind
@@ -26,14 +23,6 @@ returns-then-not-is_count c =
     let letters = sym c.is_length.ensures ∙ c.if-not-is_length.false in
     let lists = sym c.same_length.ensures ∙ c.if-not-same_length.false in
     sym (count_wrong _ _ _ _ _ _ kind letters lists (sym c.is_count.ensures ∙ c.if-not-is_count.true))
-
-pub entries_hold-requires : goal.entries_hold-requires
-entries_hold-requires c =
-    let at = c.args in
-    let same =
-    lengths_same at.words.now at.ones.now at.twos.now (sym c.same_length.ensures ∙ c.if-not-same_length.false) in
-    let letters = within_both least_length most_length at.l (sym c.is_length.ensures ∙ c.if-not-is_length.false) in
-    omega (arith, letters.1, same.0, same.1)
 
 pub returns : goal.returns
 returns c =

@@ -13,9 +13,6 @@ use Rattle.card_entries.specs.declared.Format.{Format}
 use Rattle.card_layout.specs.Card.{head_bytes}
 use Rattle.card_writer.proofs.put_card.Goals as goal
 
-pub slice_bounds-put_head-end : goal.slice_bounds-put_head-end
-slice_bounds-put_head-end c = omega (arith, c.requires.format_fits)
-
 pub slice_bounds-put_head-end-2 : goal.slice_bounds-put_head-end-2
 slice_bounds-put_head-end-2 c = omega (arith, length-take block_bytes c.args.out.now, c.requires.format_fits)
 
@@ -31,14 +28,14 @@ length_begun {head} out f made h =
 pub loop-k-init : goal.loop-k-init
 loop-k-init c =
     let size = length_begun c.args.out.now c.args.f c.put_head.ensures c.requires.format_fits.3 in
-    blocked_one _ _ _ _ c.put_head.new.part (drop block_bytes c.args.out.now) refl
-    (omega (arith, size, c.entry_blocks-last.ensures))
+    blocked_one _ _ _ c.put_head.new.part (drop block_bytes c.args.out.now) refl
+    (omega (arith, size))
     c.put_head.ensures
 
 pub slice_bounds-put_later-end : goal.slice_bounds-put_later-end
 slice_bounds-put_later-end c =
     let so_far = c.loop-k.invariant in
-    omega (arith, blocked_length _ _ _ _ so_far, so_far.size, c.loop-k-test.true)
+    omega (arith, blocked_length _ _ _ so_far, so_far.size)
 
 pub put_later-requires : goal.put_later-requires
 put_later-requires c =
@@ -50,11 +47,9 @@ put_later-requires c =
         arith,
         length-take n part,
         length-drop (block_bytes * c.loop-k.k) c.loop-k.out,
-        blocked_length _ _ _ _ so_far,
+        blocked_length _ _ _ so_far,
         so_far.size,
         so_far.begun,
-        c.loop-k-test.true,
-        c.entry_blocks-last.ensures,
         c.requires.format_fits,
       );
       listed = omega (arith, c.requires.listed);
@@ -62,12 +57,17 @@ put_later-requires c =
 
 pub loop-k-preserved : goal.loop-k-preserved
 loop-k-preserved c =
-    blocked_turn _ _ _ _ c.loop-k.invariant (omega (arith, c.loop-k-test.true)) c.put_later.ensures
+    blocked_turn _ _ _ c.loop-k.invariant (omega arith) c.put_later.ensures
 
 pub shape_of-out : goal.shape_of-out
 shape_of-out c =
     let size = length_begun c.args.out.now c.args.f c.put_head.ensures c.requires.format_fits.3 in
-    omega (arith, blocked_length _ _ _ _ c.loop-k.invariant, size, c.requires.format_fits)
+    omega (arith, blocked_length _ _ _ c.loop-k.invariant, size, c.requires.format_fits)
 
 pub returns : goal.returns
-returns c = blocked_all _ _ _ _ c.loop-k.invariant c.entry_blocks-last.ensures c.loop-k-test.false
+returns c = blocked_all _ _ _ c.loop-k.invariant (omega arith)
+
+-- past the last block
+pub returns-2 : goal.returns-2
+returns-2 c =
+    blocked_all _ _ _ (blocked_turn _ _ _ c.loop-k.invariant (omega arith) c.put_later.ensures) (omega arith)

@@ -1,41 +1,20 @@
 -- The goals of `pair_choosing::weigh` that the check leaves open; Invariants.antt says how it is met. Assumes nothing.
-use Rattle.pair_following.proofs.Slots.{list_start, list_none, slot_low, list_entry, list_stands, list_more, list_less, list_next}
+use Rattle.pair_following.proofs.Slots.{list_start, list_none, list_entry, list_more, list_next}
 use Rattle.pair_choosing.proofs.Choosing.{kept_none, weighed_start, weighing_more, weighed_end}
 use Rattle.pair_choosing.proofs.weigh.Goals as goal
 
 pub loop-k-init : goal.loop-k-init
 loop-k-init c =
     let pre = c.requires in
-    let none = list_none pre.ready.links pre.t_bound c.args.mask in
+    let none = list_none pre.ready.links pre.t_bound c.args.pairs.now.mask in
     rw c.last_slot-k.ensures (list_start pre.ready.links pre.t_bound, kept_none pre.ready.shape, weighed_start none)
-
-pub with_tried-s-requires : goal.with_tried-s-requires
-with_tried-s-requires c =
-    let pre = c.requires in
-    let inv = c.loop-k.invariant in
-    let low = list_entry pre.ready.links inv.0 c.loop-k-test.true in
-    let there = list_stands pre.ready.links inv.0 c.loop-k-test.true c.args.mask in
-    record {
-      ready = record { holds = pre.ready.holds; links = pre.ready.links; shape = inv.1.shape };
-      closed = rw inv.1.same pre.closed;
-      allowed = (low, pre.t_bound, there);
-    }
-
-pub slot_before-k-requires : goal.slot_before-k-requires
-slot_before-k-requires c =
-    slot_low c.requires.ready.links c.loop-k.invariant.0 c.loop-k-test.true
-
-pub loop-k-smaller : goal.loop-k-smaller
-loop-k-smaller c =
-    let links = c.requires.ready.links in
-    rw c.slot_before-k.ensures (list_less links c.loop-k.invariant.0 c.loop-k-test.true)
 
 pub loop-k-preserved : goal.loop-k-preserved
 loop-k-preserved c =
     let pre = c.requires in
     let inv = c.loop-k.invariant in
     let more = c.loop-k-test.true in
-    let next = list_next pre.ready.links inv.0 more c.args.mask in
+    let next = list_next pre.ready.links inv.0 more c.args.pairs.now.mask in
     let both = weighing_more pre.t_bound (list_entry pre.ready.links inv.0 more) next inv.1 inv.2 c.with_tried-s.ensures in
     rw c.slot_before-k.ensures (list_more pre.ready.links inv.0 more, both.0, both.1)
 

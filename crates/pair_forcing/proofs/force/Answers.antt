@@ -1,47 +1,40 @@
 -- `pair_forcing::force` meets its contract: a law of proofs/SureLaws.antt for each outcome. Assumes nothing.
+use borrow.Author.Rules.{rules}
+use mathlib.Core.Path.{refl, ap}
+use Prim.Native.Nat.{◌<◌}
+use lib.ListN.{length}
+use Rattle.pair_following.specs.Following.{pairs_in}
+use Rattle.pair_following.specs.Common.{many_in}
 use Rattle.pair_following.proofs.ExclusionLaws.{inside_of}
-use Rattle.pair_forcing.proofs.SureLaws.{force_none, force_still, force_one}
+use Rattle.pair_forcing.proofs.SureLaws.{one_entry, force_none, force_one}
 use Rattle.pair_forcing.proofs.force.Goals as goal
 
-pub returns-then-s-eq0 : goal.returns-then-s-eq0
-returns-then-s-eq0 c =
+pub returns-in-None : goal.returns-in-None
+returns-in-None c =
     let pre = c.requires in
-    force_none (inside_of pre.ready.holds) pre.sure pre.ready.shape pre.t_bound (c.entries_at-s.ensures c.args.mask) c.if-s-eq0.true
+    force_none (inside_of pre.ready.holds) pre.sure pre.ready.shape pre.t_bound (c.found_at.ensures c.args.pairs.now.mask)
+    (ap (λ r. many_in r) c.in-None.is)
 
-pub has_place-requires : goal.has_place-requires
-has_place-requires c =
-    let pre = c.requires in
-    rw pre.ready.shape.puts at c.if-e-put.true
+pub bounds-placed-e : goal.bounds-placed-e
+bounds-placed-e c =
+    let one = one_entry (pairs_in c.args.pairs.now) (c.in-One.ensures c.args.pairs.now.mask) in
+    rw c.requires.ready.shape.puts one.0
+
+pub offset_bounds-placed-e : goal.offset_bounds-placed-e
+offset_bounds-placed-e c =
+    let one = one_entry (pairs_in c.args.pairs.now) (c.in-One.ensures c.args.pairs.now.mask) in
+    let low : c.in-One.e < length c.args.placed.now.put.now = rw c.requires.ready.shape.puts one.0 in
+    search rules
 
 pub follow-requires : goal.follow-requires
 follow-requires c =
     let pre = c.requires in
-    let low = rw pre.ready.shape.puts at c.if-e-put.true in
-    let unplaced = rw pre.ready.shape.puts at c.if-put-e.true in
-    record { ready = pre.ready; closed = pre.sure.closed; unplaced = (low, unplaced, pre.t_bound, c.has_place.ensures c.if-has_place.true) }
+    let one = one_entry (pairs_in c.args.pairs.now) (c.in-One.ensures c.args.pairs.now.mask) in
+    let unplaced = rw pre.ready.shape.puts at c.if-placed-e.true in
+    record { ready = pre.ready; closed = pre.sure.closed; unplaced = (one.0, unplaced, pre.t_bound, one.1) }
 
-pub returns-then-has_place : goal.returns-then-has_place
-returns-then-has_place c =
+pub returns-in-One : goal.returns-in-One
+returns-in-One c =
     let pre = c.requires in
-    force_one (inside_of pre.ready.holds) pre.sure pre.ready.shape pre.t_bound (c.entries_at-s.ensures c.args.mask) c.if-s-eq1.true _ _
-    c.follow.ensures
-
-pub returns-else-has_place : goal.returns-else-has_place
-returns-else-has_place c =
-    let pre = c.requires in
-    force_still (inside_of pre.ready.holds) pre.sure pre.ready.shape pre.t_bound (c.entries_at-s.ensures c.args.mask)
-
-pub returns-else-put-e : goal.returns-else-put-e
-returns-else-put-e c =
-    let pre = c.requires in
-    force_still (inside_of pre.ready.holds) pre.sure pre.ready.shape pre.t_bound (c.entries_at-s.ensures c.args.mask)
-
-pub returns-else-e-put : goal.returns-else-e-put
-returns-else-e-put c =
-    let pre = c.requires in
-    force_still (inside_of pre.ready.holds) pre.sure pre.ready.shape pre.t_bound (c.entries_at-s.ensures c.args.mask)
-
-pub returns-else-s-eq1 : goal.returns-else-s-eq1
-returns-else-s-eq1 c =
-    let pre = c.requires in
-    force_still (inside_of pre.ready.holds) pre.sure pre.ready.shape pre.t_bound (c.entries_at-s.ensures c.args.mask)
+    force_one (inside_of pre.ready.holds) pre.sure pre.ready.shape pre.t_bound (c.in-One.ensures c.args.pairs.now.mask) refl
+    _ _ c.follow.ensures

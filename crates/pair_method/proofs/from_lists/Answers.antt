@@ -32,5 +32,5 @@ returns c =
     let masks : suc (c.words_of-mask.result - 1) ≡ 4 ^ (c.args.l - 1) = omega (arith, c.words_of-mask.ensures, pow_pos (c.args.l - 1)) in
     let pre = c.requires in
     let has = linked_has c.enter_all.ensures.has c.link.ensures in
-    let all = c.first-1.given ∙ pre.lengths.2 in
+    let all = c.from_card.auto.words ∙ pre.lengths.2 in
     (all, gives pre.pair_lists has masks all c.from_card.ensures)

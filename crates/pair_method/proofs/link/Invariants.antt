@@ -1,10 +1,6 @@
 -- `pair_method::link` meets its contract. The loop's invariant is `Linking` of proofs/LinkLaws.antt. Assumes nothing.
-use Prim.Native.Nat.{◌-◌}
 use Rattle.pair_method.proofs.LinkLaws.{Linking}
 use Rattle.pair_method.proofs.link.Given as goal
 
 abbrev pub invariant-loop-x : goal.invariant-loop-x
 invariant-loop-x l = Linking l.initial.card l.card l.x
-
-abbrev pub decreases-loop-x : goal.decreases-loop-x
-decreases-loop-x l = l.slots - l.x

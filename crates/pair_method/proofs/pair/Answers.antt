@@ -1,15 +1,8 @@
 -- `pair_method::pair` meets its contract: its list has room for as many entries as a card may have. Assumes nothing.
-use mathlib.Core.Path.{sym}
 use lib.Seq.{length-take-le, take_at}
 use Rattle.card_entries.proofs.HoldLaws.{few_entries}
 use Rattle.pair_method.proofs.CardLaws.{six_fit}
 use Rattle.pair_method.proofs.pair.Goals as goal
-
-pub slice_bounds-from_lists-end : goal.slice_bounds-from_lists-end
-slice_bounds-from_lists-end c = sym (length-take-le _ _ (six_fit (few_entries c.requires.pair_lists)))
-
-pub slice_bounds-from_lists-end-3 : goal.slice_bounds-from_lists-end-3
-slice_bounds-from_lists-end-3 c = sym (length-take-le _ _ c.requires.words_in_bounds)
 
 pub from_lists-requires : goal.from_lists-requires
 from_lists-requires c =

@@ -11,18 +11,18 @@ use Rattle.span_narrow.proofs.settle.Goals as goal
 
 pub prepare-requires : goal.prepare-requires
 prepare-requires c =
-    let most : length c.args.words.now ≤ most_entries = few_entries c.requires.span_lists in
+    let most : length c.args.lists.now.words.now ≤ most_entries = few_entries c.requires.span_lists in
     record { span_lists = c.requires.span_lists; table_room = record { places = omega (arith, most); in_slots = omega (arith, most) } }
 
 pub returns-then-crowded : goal.returns-then-crowded
 returns-then-crowded c =
     crowded_settles c.prepare.ensures _ c.requires.narrow c.crowded.ensures c.if-crowded.true
 
-pub settle_laid-requires : goal.settle_laid-requires
-settle_laid-requires c =
-    let few : length c.args.words.now ≤ most_entries =
+pub settle-requires : goal.settle-requires
+settle-requires c =
+    let few : length c.args.lists.now.words.now ≤ most_entries =
     few_entries c.requires.span_lists in
-    let found-room : length c.args.words.now ≤ length c.args.found.now =
+    let found-room : length c.args.lists.now.words.now ≤ length c.args.found.now =
     c.requires.words_in_bounds in
     record {
       planned = told_planned c.requires.span_lists c.prepare.ensures (c.crowded.ensures.no_place c.if-crowded.false).few;
@@ -32,4 +32,4 @@ settle_laid-requires c =
 pub returns : goal.returns
 returns c =
     let told = first_places_told c.requires.span_lists c.prepare.ensures in
-    settles_told _ _ told _ _ c.settle_laid.ensures.first_len c.settle_laid.ensures.settles_lists
+    settles_told _ _ told _ _ c.settle.ensures.first_len c.settle.ensures.settles_lists

@@ -1,19 +1,28 @@
 -- `walk_from` meets its contract, by the laws of `Held` and `RecallLaws`. Assumes nothing.
-use Rattle.std.proofs.Common.{◌≡◌, refl, sym, arith, ◌<◌, ℕ, ◌+◌, length, get_or}
+use Rattle.std.proofs.Common.{◌≡◌, refl, sym, ◌∙◌, arith, ◌<◌, ℕ, ◌+◌, length, get_or, IfSome}
+use Rattle.span_memory.specs.Memory.{KeyOf}
+use Rattle.span_tables.specs.Prepared.{list_at}
+use Rattle.span_memory.specs.declared.tally.Tally.{Tally}
 use Rattle.span_walk.specs.declared.Slots.{Slots}
+use Rattle.span_walk.specs.declared.Walking.{Walking}
 use Rattle.span_walk.specs.Steps.{between, Opened, Next}
 use Rattle.span_steps.specs.Steps.{no_word}
 use Rattle.span_walk.specs.Going.{Call, Ready}
-use Rattle.span_walk.proofs.Held.{able_at, Looping, ready_end, held_spent, held_at, held_end, held_over, held_next, held_start, held_turn}
-use Rattle.span_walk.proofs.Held.{looping_turn, open_start, open_next, ready_below}
-use Rattle.span_steps.proofs.PlaceLaws.{list_within, list_lent}
-use Rattle.span_walk.proofs.RecallLaws.{recalls_mask, told_went, recalls_stored}
-use Rattle.span_walk.proofs.StepLaws.{opened_below, below_on, ahead_none, slots_below}
+use Rattle.span_walk.proofs.Held.{able_at, Looping, OneOn, ready_end, held_spent, held_at, held_end, held_over, held_next, held_start}
+use Rattle.span_walk.proofs.Held.{open_start, open_next, looping_below, looping_over}
+use Rattle.span_walk.proofs.RecallLaws.{told_went, recalls_stored}
+use Rattle.span_walk.proofs.StepLaws.{opened_below, ahead_none, slots_below, no_slot, not_some}
 use Rattle.span_walk.proofs.+walk_from.Goals as goal
+use Rattle.span_walk.proofs.+walk_from.Goals.{in-Some+in_default-recall, in_default}
 
 -- the place is one that is to be filled
 inside : {call : Call} → Ready call → (call.at.i ≡ length call.tables.words → ⊥) → call.at.i < length call.tables.words
 inside ready h = omega (arith, ready.inside, h)
+
+-- the place after
+next_place : {at : Walking} {want : ℕ} {tally : Tally}
+    → OneOn at (record { i = at.i + 1; want = want; mask = at.mask; budget = at.budget; tally = tally })
+next_place = record { place = refl; mask = refl; budget = refl }
 
 -- slot k is the first that is tried
 begins : {call : Call} {lo end k : ℕ} {these : Slots} → Ready call → call.at.i < length call.tables.words
@@ -29,135 +38,101 @@ begins ready there lo_is end_is open_is next = record {
   inside = there;
 }
 
-pub returns-then-i-words-clause-went_on : goal.returns-then-i-words-clause-went_on
-returns-then-i-words-clause-went_on t c = ready_end c.requires.ready c.if-i-words.true
+pub returns-then-i-tables-clause-went_on : goal.returns-then-i-tables-clause-went_on
+returns-then-i-tables-clause-went_on t c = ready_end c.requires.ready c.if-i-tables.true
 
 pub due-open-requires-clause-slots_below : goal.due-open-requires-clause-slots_below
 due-open-requires-clause-slots_below t c =
     let card = c.requires.ready in
-    rw card.twos_all (slots_below card.prepared (inside card c.if-i-words.false) c.start_of-lo.ensures c.start_of-end.ensures)
+    rw card.twos_all (slots_below card.prepared (inside card c.if-i-tables.false) c.start_of-lo.ensures c.start_of-end.ensures)
 
-pub next-k-requires-clause-slots_below : goal.next-k-requires-clause-slots_below
-next-k-requires-clause-slots_below t c =
+pub next-slot-requires-clause-slots_below : goal.next-slot-requires-clause-slots_below
+next-slot-requires-clause-slots_below t c =
     let card = c.requires.ready in
-    opened_below (slots_below card.prepared (inside card c.if-i-words.false) c.start_of-lo.ensures c.start_of-end.ensures) c.due-open.ensures
+    opened_below (slots_below card.prepared (inside card c.if-i-tables.false) c.start_of-lo.ensures c.start_of-end.ensures) c.due-open.ensures
 
-pub returns-then-k-hi-clause-went_on : goal.returns-then-k-hi-clause-went_on
-returns-then-k-hi-clause-went_on t c =
+pub returns-then-is_none-clause-went_on : goal.returns-then-is_none-clause-went_on
+returns-then-is_none-clause-went_on t c =
     let card = c.requires.ready in
-    let start = begins card (inside card c.if-i-words.false) c.start_of-lo.ensures c.start_of-end.ensures c.due-open.ensures c.next-k.ensures in
-    held_end start.held (ahead_none _ _ _ _ _ c.if-k-hi.true)
+    let start = begins card (inside card c.if-i-tables.false) c.start_of-lo.ensures c.start_of-end.ensures c.due-open.ensures c.next-slot.ensures.next in
+    held_end start.held (ahead_none _ _ _ _ _ (no_slot _ _ c.if-is_none.ensures))
 
-pub key_of-key-requires-clause-below : goal.key_of-key-requires-clause-below
-key_of-key-requires-clause-below t c =
+pub returns-in-Some-recall-clause-went_on : goal.returns-in-Some-recall-clause-went_on
+returns-in-Some-recall-clause-went_on t c =
     let card = c.requires.ready in
-    list_within card.prepared (inside card c.if-i-words.false) c.start_of-lo.ensures c.start_of-end.ensures card.marks_room
+    let keyed = rw c.list.ensures at c.in-Some.ensures in
+    told_went card (inside card c.if-i-tables.false) c.requires.recalls keyed c.in-Some-recall.ensures c.skipped.ensures.placed_more
 
-pub returns-then-size-lt-UNKNOWN-clause-went_on : goal.returns-then-size-lt-UNKNOWN-clause-went_on
-returns-then-size-lt-UNKNOWN-clause-went_on t c =
-    let card = c.requires.ready in
-    let there = inside card c.if-i-words.false in
-    let keyed = rw (list_lent card.prepared there c.start_of-lo.ensures c.start_of-end.ensures) at c.key_of-key.ensures in
-    told_went card there c.requires.recalls keyed (c.recall-size.ensures.told c.if-size-lt-UNKNOWN.true) c.skipped.ensures
-
-pub loop-k-init : goal.loop-k-init
-loop-k-init t c =
+pub loop-slot-init : goal.loop-slot-init
+loop-slot-init t c =
     let card = c.requires.ready in (
-      begins card (inside card c.if-i-words.false) c.start_of-lo.ensures c.start_of-end.ensures c.due-open.ensures c.next-k.ensures,
-      record { place = refl; mask = refl; budget = refl },
+      begins card (inside card c.if-i-tables.false) c.start_of-lo.ensures c.start_of-end.ensures c.due-open.ensures c.next-slot.ensures.next,
+      c.next-slot.ensures.in_range,
       c.requires.recalls,
     )
 
 pub returns-then-tally-budget-clause-went_on : goal.returns-then-tally-budget-clause-went_on
 returns-then-tally-budget-clause-went_on t c =
-    let inv = c.loop-k.invariant.0 in
-    held_spent (held_at c.loop-k-test.true inv.held) inv.going c.if-tally-budget.true
+    let inv = rw c.in-Some-slot.is at c.loop-slot.invariant in
+    held_spent (held_at inv.1 inv.0.held) inv.0.going c.if-tally-budget.true
 
-pub returns-then-tally-budget-clause-still_recalls : goal.returns-then-tally-budget-clause-still_recalls
-returns-then-tally-budget-clause-still_recalls t c = c.loop-k.invariant.2
-
-pub bounds-words-e : goal.bounds-words-e
-bounds-words-e t c = (looping_turn c.loop-k.invariant.0 c.loop-k-test.true c.at16-e.ensures).low
-
-pub bounds-marks-e : goal.bounds-marks-e
-bounds-marks-e t c =
-    let low = (looping_turn c.loop-k.invariant.0 c.loop-k-test.true c.at16-e.ensures).low in
-    omega (arith, low, c.requires.ready.marks_room, c.told-marks)
-
-pub placed_at-below-requires : goal.placed_at-below-requires
-placed_at-below-requires t c =
-    let inv = c.loop-k.invariant.0 in
-    (inv.inside, omega (arith, c.if-tally-budget.false, inv.held.within, c.well_formed), inv.going)
-
-pub walk_from-tally-requires : goal.walk_from-tally-requires
-walk_from-tally-requires t c =
-    let inv = c.loop-k.invariant in
-    let e = looping_turn inv.0 c.loop-k-test.true c.at16-e.ensures in (
-      omega (arith, c.decreases, inv.0.inside, inv.1.place),
+pub walk_from-went-requires : goal.walk_from-went-requires
+walk_from-went-requires t c =
+    let inv = rw c.in-Some-slot.is at c.loop-slot.invariant in (
+      omega (arith, c.decreases, inv.0.inside),
       (
-        ready_below c.requires.ready e.held inv.0.inside e.low e.free inv.0.going (omega (arith, c.if-tally-budget.false, inv.0.held.within))
-            c.keep_word.ensures (record { place = inv.1.place; mask = inv.1.mask; budget = inv.1.budget }) refl
-            c.placed_at-below.ensures e.alone e.here,
-        recalls_mask (sym inv.1.mask) inv.2,
+        looping_below c.requires.ready inv.0 inv.1 c.entry_at-e.ensures c.if-tally-budget.false c.keep_word.ensures next_place refl
+            c.placed_at.ensures,
+        inv.2,
       ),
     )
 
-pub bounds-marks-e-in-loop-k : goal.bounds-marks-e-in-loop-k
-bounds-marks-e-in-loop-k t c =
-    let low = (looping_turn c.loop-k.invariant.0 c.loop-k-test.true c.at16-e.ensures).low in
-    omega (arith, low, c.requires.ready.marks_room, c.told-marks)
+pub returns-in_err-tally-clause-went_on : goal.returns-in_err-tally-clause-went_on
+returns-in_err-tally-clause-went_on t c =
+    let inv = rw c.in-Some-slot.is at c.loop-slot.invariant in
+    let turned = looping_over c.requires.ready inv.0 inv.1 c.entry_at-e.ensures c.if-tally-budget.false c.keep_word.ensures next_place refl
+    c.placed_at.ensures (rw c.in_err-tally.was at c.walk_from-went.ensures.went_on) in
+    rw c.from_residual.ensures (held_over turned (omega arith))
 
 pub returns-then-tally-ge2-clause-went_on : goal.returns-then-tally-ge2-clause-went_on
 returns-then-tally-ge2-clause-went_on t c =
-    let inv = c.loop-k.invariant in
-    let e = looping_turn inv.0 c.loop-k-test.true c.at16-e.ensures in
-    let room : c.loop-k.tally.placed < c.args.at.budget = omega (arith, c.if-tally-budget.false, inv.0.held.within) in
-    held_over (held_turn c.requires.ready e.held inv.0.inside e.low e.free inv.0.going room c.keep_word.ensures (record { place = inv.1.place; mask = inv.1.mask; budget = inv.1.budget }) refl
-    c.placed_at-below.ensures c.walk_from-tally.ensures.went_on) c.if-tally-ge2.true
+    let inv = rw c.in-Some-slot.is at c.loop-slot.invariant in
+    let turned = looping_over c.requires.ready inv.0 inv.1 c.entry_at-e.ensures c.if-tally-budget.false c.keep_word.ensures next_place refl
+    c.placed_at.ensures (rw c.in_ok-tally.was at c.walk_from-went.ensures.went_on) in
+    held_over turned c.if-tally-ge2.true
 
-pub returns-then-tally-ge2-clause-still_recalls : goal.returns-then-tally-ge2-clause-still_recalls
-returns-then-tally-ge2-clause-still_recalls t c = recalls_mask c.loop-k.invariant.1.mask c.walk_from-tally.ensures.still_recalls
-
-pub next-k-requires-in-loop-k-clause-slots_below :
-    goal.next-k-requires-in-loop-k-clause-slots_below
-next-k-requires-in-loop-k-clause-slots_below t c = below_on c.loop-k.invariant.0.open_slots.slots_below
-
-pub loop-k-preserved : goal.loop-k-preserved
-loop-k-preserved t c =
-    let inv = c.loop-k.invariant in
-    let e = looping_turn inv.0 c.loop-k-test.true c.at16-e.ensures in
-    let room : c.loop-k.tally.placed < c.args.at.budget = omega (arith, c.if-tally-budget.false, inv.0.held.within) in
-    let turned = held_turn c.requires.ready e.held inv.0.inside e.low e.free inv.0.going room
-    c.keep_word.ensures (record { place = inv.1.place; mask = inv.1.mask; budget = inv.1.budget }) refl
-    c.placed_at-below.ensures c.walk_from-tally.ensures.went_on in (
+pub loop-slot-preserved : goal.loop-slot-preserved
+loop-slot-preserved t c =
+    let inv = rw c.in-Some-slot.is at c.loop-slot.invariant in
+    let next = c.next-slot-in-Some-slot.ensures in
+    let turned = looping_over c.requires.ready inv.0 inv.1 c.entry_at-e.ensures c.if-tally-budget.false c.keep_word.ensures next_place refl
+    c.placed_at.ensures (rw c.in_ok-tally.was at c.walk_from-went.ensures.went_on) in (
       record {
-        held = held_next turned c.next-k-in-loop-k.ensures;
-        open_slots = open_next _ inv.0.open_slots turned.unmarked c.next-k-in-loop-k.ensures;
+        held = held_next turned next.next;
+        open_slots = open_next _ inv.0.open_slots turned.unmarked next.next;
         going = omega (arith, c.if-tally-ge2.false);
         inside = inv.0.inside;
       },
-      record { place = inv.1.place; mask = inv.1.mask; budget = inv.1.budget },
-      recalls_mask inv.1.mask c.walk_from-tally.ensures.still_recalls,
+      next.in_range,
+      c.walk_from-went.ensures.still_recalls,
     )
 
-pub returns-then-key-eq0-clause-went_on : goal.returns-then-key-eq0-clause-went_on
-returns-then-key-eq0-clause-went_on t c =
-    held_end c.loop-k.invariant.0.held (ahead_none _ _ _ _ _ c.loop-k-test.false)
+pub returns-in-Some-key-clause-went_on : goal.returns-in-Some-key-clause-went_on
+returns-in-Some-key-clause-went_on t c =
+    held_end c.loop-slot.invariant.0.held (ahead_none _ _ _ _ _ (no_slot _ _ (not_some c.in_default-slot.not-Some)))
 
-pub returns-then-key-eq0-clause-still_recalls : goal.returns-then-key-eq0-clause-still_recalls
-returns-then-key-eq0-clause-still_recalls t c = c.loop-k.invariant.2
-
-pub remember-requires : goal.remember-requires
-remember-requires t c =
-    let inv = c.loop-k.invariant in
-    (omega (arith, c.if-key-eq0.false), inv.0.held.grows, inv.2.all)
-
-pub returns-clause-went_on : goal.returns-clause-went_on
-returns-clause-went_on t c = held_end c.loop-k.invariant.0.held (ahead_none _ _ _ _ _ c.loop-k-test.false)
-
-pub returns-clause-still_recalls : goal.returns-clause-still_recalls
-returns-clause-still_recalls t c =
+pub returns-in-Some-key-clause-still_recalls : goal.returns-in-Some-key-clause-still_recalls
+returns-in-Some-key-clause-still_recalls t c =
     let card = c.requires.ready in
-    let inv = c.loop-k.invariant in
-    let keyed = rw (list_lent card.prepared inv.0.inside c.start_of-lo.ensures c.start_of-end.ensures) at c.key_of-key.ensures in
-    recalls_stored card inv.0.inside inv.2 keyed (held_end inv.0.held (ahead_none _ _ _ _ _ c.loop-k-test.false)) c.remember.ensures
+    let inv = c.loop-slot.invariant in
+    let made : IfSome c.key_of-key.result (KeyOf c.args.marks.now (list_at c.args.tables.now.starts.now c.args.tables.now.slots.now c.args.at.i) c.args.at.i c.args.at.want) =
+    rw c.list.ensures at c.key_of-key.ensures in
+    let kept : c.match-key.key ≡ c.key_of-key.result =
+    elim c.match-key.branch [ in-Some+in_default-recall w ↦ cc w.key-is | in_default w ↦ cc w.key-is ] in
+    let keyed = rw (sym kept ∙ c.in-Some-key.is) at made in
+    recalls_stored card inv.0.inside inv.2 keyed (held_end inv.0.held (ahead_none _ _ _ _ _ (no_slot _ _ (not_some c.in_default-slot.not-Some))))
+    c.remember.ensures
+
+pub returns-in_default-key-clause-went_on : goal.returns-in_default-key-clause-went_on
+returns-in_default-key-clause-went_on t c =
+    held_end c.loop-slot.invariant.0.held (ahead_none _ _ _ _ _ (no_slot _ _ (not_some c.in_default-slot.not-Some)))

@@ -1,18 +1,9 @@
 -- `export_card` meets its contract. Assumes nothing.
-use mathlib.Core.Path.{sym, ◌∙◌}
-use lib.Seq.{length-take-le}
 use Rattle.text_export.proofs.ExportLaws.{export_no_room, export_text}
 use Rattle.text_export.proofs.export_card.Goals as goal
 
 pub returns-then-out-n : goal.returns-then-out-n
 returns-then-out-n c = export_no_room _ (λ i. (c.type_inv.card i).fits) c.requires c.text_length-n.ensures c.if-out-n.true
-
-pub slice_bounds-put_lines-end-2 : goal.slice_bounds-put_lines-end-2
-slice_bounds-put_lines-end-2 c = sym (length-take-le _ c.args.out.now c.if-out-n.false)
-
-pub put_lines-requires : goal.put_lines-requires
-put_lines-requires c =
-    (c.requires, length-take-le _ c.args.out.now c.if-out-n.false ∙ c.text_length-n.ensures)
 
 pub returns : goal.returns
 returns c =

@@ -1,29 +1,28 @@
 -- `listed_for` meets its contract. Assumes nothing.
 use native.Mathlib.Omega.{arith}
-use Rattle.text_export.proofs.PutLaws.{for_span, for_one, for_two, small_span, small_one, small_two}
+use Rattle.text_export.proofs.PutLaws.{listed_so, few_so}
 use Rattle.text_export.proofs.listed_for.Goals as goal
 
 pub overflow_add-result : goal.overflow_add-result
-overflow_add-result c = omega (arith, (small_span _ _ c.requires c.if-kind-eq-SPAN.true).0)
+overflow_add-result c = omega (arith, few_so _ _ c.entry_of.ensures c.in-One.is c.requires)
 
-pub overflow_add-result-then-kind-eq-SPAN : goal.overflow_add-result-then-kind-eq-SPAN
-overflow_add-result-then-kind-eq-SPAN c = omega (arith, (small_span _ _ c.requires c.if-kind-eq-SPAN.true).1)
+pub overflow_add-result-in-Two : goal.overflow_add-result-in-Two
+overflow_add-result-in-Two c = omega (arith, (few_so _ _ c.entry_of.ensures c.in-Two.is c.requires).0)
 
-pub returns-then-kind-eq-SPAN : goal.returns-then-kind-eq-SPAN
-returns-then-kind-eq-SPAN c = for_span c.args.kind c.args.s c.if-kind-eq-SPAN.true
+pub overflow_add-result-in-Two-2 : goal.overflow_add-result-in-Two-2
+overflow_add-result-in-Two-2 c = omega (arith, (few_so _ _ c.entry_of.ensures c.in-Two.is c.requires).1)
 
-pub overflow_add-result-then-s-eq-NO_PLACE : goal.overflow_add-result-then-s-eq-NO_PLACE
-overflow_add-result-then-s-eq-NO_PLACE c = omega (arith, small_one _ _ c.requires c.if-kind-eq-SPAN.false c.if-s-eq-NO_PLACE.true)
+pub overflow_add-result-in-Span : goal.overflow_add-result-in-Span
+overflow_add-result-in-Span c = omega (arith, (few_so _ _ c.entry_of.ensures c.in-Span.is c.requires).0)
 
-pub returns-then-s-eq-NO_PLACE : goal.returns-then-s-eq-NO_PLACE
-returns-then-s-eq-NO_PLACE c = for_one c.args.kind c.args.s c.if-kind-eq-SPAN.false c.if-s-eq-NO_PLACE.true
+pub overflow_add-result-in-Span-2 : goal.overflow_add-result-in-Span-2
+overflow_add-result-in-Span-2 c = omega (arith, (few_so _ _ c.entry_of.ensures c.in-Span.is c.requires).1)
 
-pub overflow_add-result-2 : goal.overflow_add-result-2
-overflow_add-result-2 c = omega (arith, (small_two _ _ c.requires c.if-kind-eq-SPAN.false c.if-s-eq-NO_PLACE.false).0)
+pub returns-in-One : goal.returns-in-One
+returns-in-One c = listed_so _ _ c.entry_of.ensures c.in-One.is
 
-pub overflow_add-result-3 : goal.overflow_add-result-3
-overflow_add-result-3 c = omega (arith, (small_two _ _ c.requires c.if-kind-eq-SPAN.false c.if-s-eq-NO_PLACE.false).1)
+pub returns-in-Two : goal.returns-in-Two
+returns-in-Two c = listed_so _ _ c.entry_of.ensures c.in-Two.is
 
-pub returns : goal.returns
-returns c =
-    for_two c.args.kind c.args.s c.if-kind-eq-SPAN.false c.if-s-eq-NO_PLACE.false
+pub returns-in-Span : goal.returns-in-Span
+returns-in-Span c = listed_so _ _ c.entry_of.ensures c.in-Span.is

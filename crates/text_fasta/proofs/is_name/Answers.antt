@@ -1,12 +1,21 @@
 -- `is_name` meets its contract. Assumes nothing.
-use Rattle.text_fasta.proofs.TestLaws.{name_none, name_long, name_by_bytes}
+use borrow.Author.Rules.{rules}
+use mathlib.Core.Path.{◌≡◌, ◌∙◌}
+use mathlib.Core.Bool.{true, false, ◌&&◌}
+use lib.ListN.{length}
+use lib.Dec.{leb}
+use Rattle.text_fasta.specs.Record.{least_name, most_name, is_printable}
+use Rattle.text_fasta.proofs.TestLaws.{name_by_bytes, not_a_name}
 use Rattle.text_fasta.proofs.is_name.Goals as goal
 
-pub returns-then-n-eq0 : goal.returns-then-n-eq0
-returns-then-n-eq0 c = name_none _ c.if-n-eq0.true
+pub returns-then-contains : goal.returns-then-contains
+returns-then-contains c =
+    let n = length c.args.name.now in
+    let within : (leb least_name n && leb n most_name) ≡ true = search rules in
+    name_by_bytes _ within (c.leading.ensures is_printable (λ b h t e. e))
 
-pub returns-then-n-gt-MOST_NAME : goal.returns-then-n-gt-MOST_NAME
-returns-then-n-gt-MOST_NAME c = name_long _ c.if-n-gt-MOST_NAME.true
-
-pub returns : goal.returns
-returns c = name_by_bytes _ c.if-n-eq0.false c.if-n-gt-MOST_NAME.false c.printables.ensures
+pub returns-else-contains : goal.returns-else-contains
+returns-else-contains c =
+    let n = length c.args.name.now in
+    let without : (leb least_name n && leb n most_name) ≡ false = search rules in
+    c.if-contains.false ∙ not_a_name _ without

@@ -3,42 +3,17 @@ use borrow.Author.Rules.{rules}
 use mathlib.Core.Path.{ap}
 use native.Mathlib.Omega.{arith}
 use Rattle.card_entries.specs.declared.Slot.{Slot}
-use Rattle.card_reader.proofs.ListingLaws.{filled_none, filled_turn, filled_whole}
+use Rattle.card_reader.proofs.ListingLaws.{filled_turn}
 use Rattle.card_reader.proofs.listing.fill.Goals as goal
-
-pub loop-e-init : goal.loop-e-init
-loop-e-init c =
-    record {
-      within = search rules;
-      in_words = filled_none _ _;
-      in_ones = filled_none _ _;
-      in_twos = filled_none _ _;
-      words_length = search rules;
-      ones-length = search rules;
-      twos-length = search rules;
-    }
-
-pub slot_of-s-requires : goal.slot_of-s-requires
-slot_of-s-requires c = omega arith
 
 pub loop-e-preserved : goal.loop-e-preserved
 loop-e-preserved c =
     let so_far = c.loop-e.invariant in
     record {
-      within = search rules;
       in_words = filled_turn _ _ _ (omega arith) so_far.in_words (ap (λ (s : Slot). s.word) c.slot_of-s.ensures);
       in_ones = filled_turn _ _ _ (omega arith) so_far.in_ones (ap (λ (s : Slot). s.one) c.slot_of-s.ensures);
       in_twos = filled_turn _ _ _ (omega arith) so_far.in_twos (ap (λ (s : Slot). s.two) c.slot_of-s.ensures);
       words_length = search rules;
       ones-length = search rules;
       twos-length = search rules;
-    }
-
-pub returns : goal.returns
-returns c =
-    let so_far = c.loop-e.invariant in
-    record {
-      words_after = filled_whole _ _ _ _ (omega arith) so_far.in_words;
-      ones_after = filled_whole _ _ _ _ (omega arith) so_far.in_ones;
-      twos_after = filled_whole _ _ _ _ (omega arith) so_far.in_twos;
     }

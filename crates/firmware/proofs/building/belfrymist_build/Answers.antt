@@ -3,4 +3,4 @@ use Rattle.firmware.proofs.Laws.{build_flat}
 use Rattle.firmware.proofs.building.belfrymist_build.Goals as goal
 
 pub returns : goal.returns
-returns c = build_flat c.build.ensures c.flat.ensures
+returns c = build_flat c.build.ensures c.from.ensures

@@ -5,4 +5,4 @@ use Rattle.firmware.proofs.listing.belfrymist_import.Goals as goal
 
 pub returns : goal.returns
 returns c =
-    let did = c.import.ensures in record { answer = c.flat.ensures ∙ ap write_answer did.answer; bytes = did.bytes }
+    let did = c.import.ensures in record { answer = c.from.ensures ∙ ap write_answer did.answer; bytes = did.bytes }

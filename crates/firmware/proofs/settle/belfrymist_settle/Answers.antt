@@ -3,4 +3,4 @@ use Rattle.firmware.proofs.Laws.{settle_flat}
 use Rattle.firmware.proofs.settle.belfrymist_settle.Goals as goal
 
 pub returns : goal.returns
-returns c = settle_flat c.settle_card.ensures c.flat.ensures
+returns c = settle_flat c.settle_card.ensures c.from.ensures

@@ -5,4 +5,4 @@ use Rattle.firmware.proofs.writing.belfrymist_write.Goals as goal
 
 pub returns : goal.returns
 returns c =
-    let wrote = c.write.ensures in record { answer = c.flat.ensures ∙ ap write_answer wrote.answer; bytes = wrote.bytes }
+    let wrote = c.write.ensures in record { answer = c.from.ensures ∙ ap write_answer wrote.answer; bytes = wrote.bytes }

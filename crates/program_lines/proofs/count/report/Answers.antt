@@ -2,11 +2,11 @@
 use Rattle.program_lines.proofs.CountLaws.{count_reported}
 use Rattle.program_lines.proofs.count.report.Goals as goal
 
-pub returns-in-Power : goal.returns-in-Power
-returns-in-Power c = count_reported c.count_card.ensures c.in-Power.is c.put_power.ensures
+pub returns-in-Ok-Some : goal.returns-in-Ok-Some
+returns-in-Ok-Some c = count_reported (rw c.in-Ok-Some.field-0-is at c.in-Ok-Some.ensures) c.put_power.ensures
 
-pub returns-in-None : goal.returns-in-None
-returns-in-None c = count_reported c.count_card.ensures c.in-None.is c.put_text.ensures
+pub returns-in-Ok-None : goal.returns-in-Ok-None
+returns-in-Ok-None c = count_reported (rw c.in-Ok-None.field-0-is at c.in-Ok-None.ensures) c.put_text.ensures
 
-pub returns-in-Refused : goal.returns-in-Refused
-returns-in-Refused c = count_reported c.count_card.ensures c.in-Refused.is c.put_refused.ensures
+pub returns-in-Err : goal.returns-in-Err
+returns-in-Err c = count_reported c.in-Err.ensures c.put_refused.ensures

@@ -3,7 +3,6 @@ use mathlib.Core.Path.{sym}
 use native.Mathlib.Omega.{arith}
 use lib.ListN.{length-take}
 use lib.Seq.{length-take-le}
-use Rattle.base_text.proofs.PuttingLaws.{put_nothing}
 use Rattle.program_lines.proofs.VerdictLaws.{verdict_case, length_case}
 use Rattle.program_lines.proofs.verdict.put.Goals as goal
 
@@ -34,6 +33,3 @@ returns-in-None c = verdict_case c.in-None.is _ c.put_placements.ensures
 
 pub returns-in-Unsettled : goal.returns-in-Unsettled
 returns-in-Unsettled c = verdict_case c.in-Unsettled.is _ c.put_placements-in-Unsettled.ensures
-
-pub returns-in-Refused : goal.returns-in-Refused
-returns-in-Refused c = verdict_case c.in-Refused.is _ (put_nothing _ _ (omega (arith, c.requires.room)))

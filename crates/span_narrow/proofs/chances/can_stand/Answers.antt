@@ -1,29 +1,25 @@
 -- `can_stand` meets its contract, by its tests. Assumes nothing.
-use mathlib.Core.Path.{◌≡◌, sym, ap, ◌∙◌}
+use mathlib.Core.Path.{sym, ap, ◌∙◌}
+use mathlib.Core.Bool.{not, true≢false}
 use lib.Dec.{eqb}
-use Rattle.span_steps.specs.Steps.{is_due}
+use borrow.Author.Tests.{eqb-true, eqb-false, eq-eqb}
 use Rattle.span_narrow.specs.Digits.{bit}
-use Rattle.span_narrow.proofs.StateLaws.{stands, stands_not_again, stands_not_placed, stands_by_dues}
+use Rattle.span_narrow.proofs.StateLaws.{digit_of, stands_not_again, stands_not_placed, stands_by_dues}
 use Rattle.span_narrow.proofs.chances.can_stand.Goals as goal
+use Rattle.span_narrow.proofs.chances.can_stand.Goals.{then-words-e, else-words-e}
 
-pub returns-then-words-e : goal.returns-then-words-e
-returns-then-words-e c =
-    sym (stands_not_again c.args.words.now _ _ _ _ _ _ c.if-words-e.true)
+pub returns-then-marks-e-eq0 : goal.returns-then-marks-e-eq0
+returns-then-marks-e-eq0 c =
+    elim c.if-words-e.branch [
+      | then-words-e w ↦ ap (eqb c.args.dues) (c.from.ensures ∙ digit_of _ ∙ ap bit c.is_due.ensures)
+          ∙ sym (stands_by_dues c.args.words.now _ _ _ _ _ _ w.if-words-e.true (eqb-true _ _ (sym w.value-is ∙ c.if-marks-e-eq0.true)))
+      | else-words-e w ↦ absurd (true≢false (sym c.if-marks-e-eq0.true ∙ w.value-is ∙ ap not (eq-eqb _ _ w.if-words-e.false)))
+    ]
 
-pub returns-then-marks-e-ne0 : goal.returns-then-marks-e-ne0
-returns-then-marks-e-ne0 c =
-    sym (stands_not_placed c.args.words.now _ _ _ _ _ c.args.tried c.if-marks-e-ne0.true)
-
-pub returns-then-is_due : goal.returns-then-is_due
-returns-then-is_due c =
-    let by-dues : stands c.args.words.now c.args.twos.now c.args.marks.now c.args.i c.args.dues c.args.e c.args.tried
-    ≡ eqb c.args.dues (bit (is_due c.args.twos.now c.args.marks.now c.args.i c.args.e)) =
-    stands_by_dues c.args.words.now _ _ _ _ _ _ c.if-words-e.false c.if-marks-e-ne0.false in
-    sym (by-dues ∙ ap (λ b. eqb c.args.dues (bit b)) (sym c.is_due.ensures ∙ c.if-is_due.true))
-
-pub returns : goal.returns
-returns c =
-    let by-dues : stands c.args.words.now c.args.twos.now c.args.marks.now c.args.i c.args.dues c.args.e c.args.tried
-    ≡ eqb c.args.dues (bit (is_due c.args.twos.now c.args.marks.now c.args.i c.args.e)) =
-    stands_by_dues c.args.words.now _ _ _ _ _ _ c.if-words-e.false c.if-marks-e-ne0.false in
-    sym (by-dues ∙ ap (λ b. eqb c.args.dues (bit b)) (sym c.is_due.ensures ∙ c.if-is_due.false))
+pub returns-else-marks-e-eq0 : goal.returns-else-marks-e-eq0
+returns-else-marks-e-eq0 c =
+    elim c.if-words-e.branch [
+      | then-words-e w ↦ c.if-marks-e-eq0.false
+          ∙ sym (stands_not_placed c.args.words.now _ _ _ _ _ c.args.tried (eqb-false _ _ (sym w.value-is ∙ c.if-marks-e-eq0.false)))
+      | else-words-e w ↦ c.if-marks-e-eq0.false ∙ sym (stands_not_again c.args.words.now _ _ _ _ _ _ w.if-words-e.false)
+    ]

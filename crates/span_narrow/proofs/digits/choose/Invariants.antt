@@ -1,9 +1,8 @@
--- `choose` meets its contract: the loop keeps who is chosen of the entries from k on (`LookedFrom`), and k falls. Assumes nothing.
+-- `choose` meets its contract: the loop keeps who is chosen of the entries that it has seen (`LookedFrom`). Assumes nothing.
+use Prim.Native.Nat.{◌-◌}
+use lib.ListN.{length}
 use Rattle.span_narrow.proofs.ChooseLaws.{LookedFrom}
 use Rattle.span_narrow.proofs.digits.choose.Given as goal
 
-abbrev pub invariant-loop-k : goal.invariant-loop-k
-invariant-loop-k l = LookedFrom l.list l.words l.c l.i l.want l.k l.rest l.at l.more
-
-abbrev pub decreases-loop-k : goal.decreases-loop-k
-decreases-loop-k l = l.k
+abbrev pub invariant-loop-e : goal.invariant-loop-e
+invariant-loop-e l = LookedFrom l.list l.words l.c l.i l.want (length l.list - length l.yielded) l.rest l.chosen

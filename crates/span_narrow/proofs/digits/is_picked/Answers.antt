@@ -6,6 +6,6 @@ pub returns-then-c-eq1 : goal.returns-then-c-eq1
 returns-then-c-eq1 c =
     rw (eq-eqb _ _ c.if-c-eq1.true) c.agrees.ensures
 
-pub returns : goal.returns
-returns c =
+pub returns-else-c-eq1 : goal.returns-else-c-eq1
+returns-else-c-eq1 c =
     rw (ne_eqb _ _ c.if-c-eq1.false)

@@ -1,11 +1,6 @@
--- `mark_list` meets its contract: one entry more is marked in each turn (`Marking`). What falls is how many are left. Assumes nothing.
-use Prim.Native.Nat.{◌-◌}
-use lib.ListN.{length}
+-- `mark_list` meets its contract: one entry more is marked in each turn (`Marking`). Assumes nothing.
 use Rattle.span_narrow.proofs.MarkLaws.{Marking}
 use Rattle.span_narrow.proofs.digits.mark_list.Given as goal
 
-abbrev pub invariant-loop-k : goal.invariant-loop-k
-invariant-loop-k l = Marking l.list l.initial.marks l.v l.k l.marks
-
-abbrev pub decreases-loop-k : goal.decreases-loop-k
-decreases-loop-k l = length l.list - l.k
+abbrev pub invariant-loop-e : goal.invariant-loop-e
+invariant-loop-e l = Marking l.list l.initial.marks l.v l.e-index l.marks

@@ -1,8 +1,9 @@
 -- The goals of `put_lines` that the check leaves open; Invariants.antt says how it is met. Assumes nothing.
-use mathlib.Core.Path.{sym, ap, ◌∙◌}
+use mathlib.Core.Path.{◌≡◌, sym, ap, ◌∙◌}
+use native.Mathlib.Omega.{arith}
 use lib.ListN.{length}
 use Rattle.card_entries.specs.declared.Slot.{Slot}
-use Rattle.base_text.proofs.PuttingLaws.{length_put, put_as}
+use Rattle.base_text.proofs.PuttingLaws.{put_as}
 use Rattle.text_probes.specs.Line.{line_text}
 use Rattle.text_export.specs.Exporting.{line_for}
 use Rattle.text_export.proofs.LoopLaws.{lines_none, lines_turn, lines_room, lines_all}
@@ -10,7 +11,7 @@ use Rattle.text_export.proofs.ExportLaws.{slot_there, its_bounds, its_small, lis
 use Rattle.text_export.proofs.putting.put_lines.Goals as goal
 
 pub loop-e-init : goal.loop-e-init
-loop-e-init c = lines_none _ _ _
+loop-e-init c = lines_none c.args.f c.args.card.now _
 
 pub slot_of-requires : goal.slot_of-requires
 slot_of-requires c = slot_there _ c.requires.0 _ c.loop-e-test.true
@@ -24,20 +25,18 @@ put_line-at-requires c =
     rw c.slot_of.ensures (
     record {
       fine = (bounds.0, bounds.1, its_small card c.requires.0 _ here);
-      room = lines_room _ _ c.loop-e.invariant here whole;
+      room = lines_room c.args.f card c.loop-e.e c.loop-e.invariant here whole;
     }
     )
 
 pub loop-e-preserved : goal.loop-e-preserved
 loop-e-preserved c =
     let f = c.args.f in
-    lines_turn _ _ c.loop-e.invariant c.loop-e-test.true
+    lines_turn f c.args.card.now c.loop-e.e c.loop-e.invariant
     (put_as c.put_line-at.ensures (ap (λ (s : Slot). line_text (line_for f.kind f.l s)) c.slot_of.ensures))
-
-pub shape_of-out : goal.shape_of-out
-shape_of-out c = length_put c.loop-e.invariant.put
 
 pub returns : goal.returns
 returns c =
     let list = list_is c.args.card.now c.requires.0 in
-    lines_all _ _ c.loop-e.invariant c.loop-e-test.false (c.requires.1 ∙ ap length list) ∙ sym list
+    let same : c.loop-e.e ≡ c.args.f.m = omega (arith, c.loop-e.auto.e-end, c.loop-e-test.false) in
+    lines_all c.args.f c.args.card.now (rw same at c.loop-e.invariant) (c.requires.1 ∙ ap length list) ∙ sym list

@@ -1,15 +1,18 @@
 -- The goals of `are_line_letters` that the check leaves open; Invariants.antt says how it is met. Assumes nothing.
-use native.Mathlib.Omega.{arith}
-use Rattle.text_fasta.proofs.LeadingLaws.{seen_none, seen_part, seen_rest}
+use mathlib.Core.Path.{ap, ◌∙◌}
+use Prim.Native.Nat.{◌/◌}
+use lib.ListN.{length}
+use Rattle.base_letters.specs.Letters.{is_letter}
+use Rattle.text_fasta.specs.Record.{are_all}
+use Rattle.text_fasta.proofs.LeadingLaws.{all_pieces, pieces_turn, pieces_all, pieces_join}
 use Rattle.text_fasta.proofs.reading.are_line_letters.Goals as goal
 
-pub loop-at-init : goal.loop-at-init
-loop-at-init c = seen_none
-
-pub loop-at-preserved : goal.loop-at-preserved
-loop-at-preserved c =
-    let at = c.loop-at in
-    seen_part at.invariant (omega arith) (omega (arith, at.invariant.within, c.loop-at-test.true)) c.are_letters-all.ensures
+pub loop-piece-preserved : goal.loop-piece-preserved
+loop-piece-preserved c = pieces_turn is_letter _ _ c.loop-piece.invariant c.loop-piece-test.true c.are_letters-all.ensures
 
 pub returns : goal.returns
-returns c = seen_rest c.loop-at.invariant c.are_letters.ensures
+returns c =
+    let line = c.args.line.now in
+    let all = pieces_all is_letter _ _ c.loop-piece.invariant c.loop-piece-test.false ∙ ap (all_pieces is_letter) c.as_chunks.ensures.front in
+    let rest = c.are_letters.ensures ∙ ap (are_all is_letter) c.as_chunks.ensures.back in
+    rw (all, rest) (pieces_join is_letter 20 (length line / 20) line)

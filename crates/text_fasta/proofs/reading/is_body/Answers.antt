@@ -1,33 +1,18 @@
--- The goals of `is_body` that the check leaves open; Invariants.antt says how it is met. Assumes nothing.
-use mathlib.Core.Path.{sym, ◌∙◌}
+-- `is_body` meets its contract: line after line is looked at (`looked_by_all`). Assumes nothing.
+use borrow.Author.Rules.{rules}
+use borrow.Author.Tests.{eqb-true, eqb-false}
+use mathlib.Core.Path.{sym, ap, ◌∙◌}
+use mathlib.Core.Bool.{not}
 use native.Mathlib.Omega.{arith}
-use Rattle.text_fasta.proofs.EndLaws.{end_within, end_after}
 use Rattle.text_fasta.proofs.LinedLaws.{nothing_body}
-use Rattle.text_fasta.proofs.LoopLaws.{looked_none, looked_turn, looked_stop, looked_all}
+use Rattle.text_fasta.proofs.LoopLaws.{looked_by_all}
 use Rattle.text_fasta.proofs.reading.is_body.Goals as goal
 
-pub returns-then-n-eq0 : goal.returns-then-n-eq0
-returns-then-n-eq0 c = nothing_body _ c.if-n-eq0.true
+pub returns-then-not-is_empty : goal.returns-then-not-is_empty
+returns-then-not-is_empty c =
+    let some = eqb-false _ 0 (sym c.is_empty.ensures ∙ c.if-not-is_empty.true) in
+    looked_by_all _ (λ f f' x t call. search rules) _ _ _ _ _ (omega (arith, some)) c.chunks.ensures.size c.chunks.ensures.rest c.all.ensures.ran
 
-pub loop-at-init : goal.loop-at-init
-loop-at-init c = looked_none
-
-pub is_line-requires : goal.is_line-requires
-is_line-requires c = (end_after c.line_end-end.ensures, omega (arith, end_within c.line_end-end.ensures, c.loop-at-test.true))
-
-pub returns-then-not-is_line : goal.returns-then-not-is_line
-returns-then-not-is_line c =
-    looked_stop c.loop-at.invariant c.line_end-end.ensures c.loop-at-test.true (sym c.is_line.ensures ∙ c.if-not-is_line.true)
-
-pub overflow_add-at : goal.overflow_add-at
-overflow_add-at c = omega (arith, end_within c.line_end-end.ensures, c.loop-at-test.true)
-
-pub loop-at-smaller : goal.loop-at-smaller
-loop-at-smaller c = omega (arith, end_after c.line_end-end.ensures, c.loop-at-test.true)
-
-pub loop-at-preserved : goal.loop-at-preserved
-loop-at-preserved c =
-    looked_turn c.loop-at.invariant c.line_end-end.ensures c.loop-at-test.true (sym c.is_line.ensures ∙ c.if-not-is_line.false)
-
-pub returns : goal.returns
-returns c = looked_all c.loop-at.invariant (omega (arith, c.if-n-eq0.false)) c.loop-at-test.false
+pub returns-else-not-is_empty : goal.returns-else-not-is_empty
+returns-else-not-is_empty c =
+    ap not c.if-not-is_empty.false ∙ nothing_body _ (eqb-true _ 0 (sym c.is_empty.ensures ∙ c.if-not-is_empty.false))

@@ -7,9 +7,6 @@ use Rattle.base_answers.proofs.Laws.{first_fail, first_last}
 use Rattle.text_fasta.proofs.HeadLaws.{name_found}
 use Rattle.text_fasta.proofs.reading.name_in.Goals as goal
 
-pub is_headed-requires : goal.is_headed-requires
-is_headed-requires c = c.name_length-n.ensures
-
 pub returns-then-not-is_headed : goal.returns-then-not-is_headed
 returns-then-not-is_headed c = sym (first_fail _ Name 0 [] _ (sym c.is_headed.ensures ∙ c.if-not-is_headed.true))
 

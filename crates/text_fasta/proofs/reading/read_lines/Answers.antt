@@ -13,6 +13,7 @@ use Rattle.text_fasta.proofs.HeadLaws.{headed_room, name_part, body_part}
 use Rattle.text_fasta.proofs.LinedLaws.{is_body_lem, letters_among}
 use Rattle.text_fasta.proofs.AnswerLaws.{no_room_name, no_room_letters, record_read}
 use Rattle.text_fasta.proofs.reading.read_lines.Goals as goal
+use Rattle.text_fasta.proofs.reading.read_lines.Goals.{then-name-n-via-then-name-n, then-name-n-via-else-name-n+then-letters-k}
 
 -- the record goes on after the name's line
 goes_on : (n : ℕ) (r : List ℕ) → is_headed r ≡ true → n ≡ name_length r → n + 2 ≤ length r
@@ -40,11 +41,12 @@ letters_among-k-requires c =
     rw (body_part r c.requires.1) (letters_among (body_in r) c.requires.2).0
 
 pub returns-then-name-n : goal.returns-then-name-n
-returns-then-name-n c = no_room_name _ _ _ c.requires.0 c.requires.2 c.requires.1 c.if-name-n.true
-
-pub returns-then-letters-k : goal.returns-then-letters-k
-returns-then-letters-k c =
-    no_room_letters _ _ _ c.requires.0 c.requires.2 c.requires.1 (counted _ _ c.args.bytes.now (body_part _ c.requires.1) c.requires.2 c.letters_among-k.ensures) c.if-letters-k.true
+returns-then-name-n c =
+    elim c.then-name-n.branch [
+      | then-name-n-via-then-name-n w ↦ no_room_name _ _ _ c.requires.0 c.requires.2 c.requires.1 w.if-name-n.true
+      | then-name-n-via-else-name-n+then-letters-k w ↦
+          no_room_letters _ _ _ c.requires.0 c.requires.2 c.requires.1 (counted _ _ c.args.bytes.now (body_part _ c.requires.1) c.requires.2 c.letters_among-k.ensures) w.if-letters-k.true
+    ]
 
 pub slice_bounds-put_text-end : goal.slice_bounds-put_text-end
 slice_bounds-put_text-end c = omega (arith, goes_on _ _ c.requires.0 c.requires.1)

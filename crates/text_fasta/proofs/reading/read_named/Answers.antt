@@ -1,5 +1,5 @@
 -- `read_named` meets its contract. Assumes nothing.
-use mathlib.Core.Path.{sym, ◌∙◌}
+use mathlib.Core.Path.{sym}
 use native.Mathlib.Omega.{arith}
 use Rattle.text_fasta.proofs.HeadLaws.{headed_room, body_part}
 use Rattle.text_fasta.proofs.AnswerLaws.{no_body}
@@ -13,14 +13,6 @@ slice_bounds-body-count c = omega (arith, headed_room c.args.bytes.now c.require
 
 pub slice_bounds-body-start : goal.slice_bounds-body-start
 slice_bounds-body-start c = omega (arith, headed_room c.args.bytes.now c.requires.0, c.requires.1)
-
-pub read_lines-requires : goal.read_lines-requires
-read_lines-requires c =
-    let r = c.args.bytes.now in
-    (c.requires.0, c.requires.1, rw (sym (body_part r c.requires.1)) (sym c.is_body.ensures ∙ c.if-is_body.true))
-
-pub fault_in-requires : goal.fault_in-requires
-fault_in-requires c = sym c.is_body.ensures ∙ c.if-is_body.false
 
 pub returns : goal.returns
 returns c =

@@ -1,5 +1,4 @@
 -- `put_record` meets its contract: part after part. Assumes nothing.
-use mathlib.Core.Path.{◌∙◌}
 use native.Mathlib.Omega.{arith}
 use mathlib.Core.List.{List, [], ◌∷◌}
 use Prim.Native.Nat.{ℕ, ◌+◌, ◌≤◌}
@@ -31,10 +30,6 @@ pub put_lines-requires : goal.put_lines-requires
 put_lines-requires c =
     let put = c.put_line-end.ensures in
     omega (arith, put.ends, length_put put, length_put (marked _ _ _ c.requires), length-append c.args.name.now (newline ∷ []), long _ _ _ c.requires)
-
-pub shape_of-out : goal.shape_of-out
-shape_of-out c =
-    length_put c.put_lines.ensures ∙ length_put c.put_line-end.ensures ∙ length_put (marked _ _ _ c.requires)
 
 pub returns : goal.returns
 returns c =

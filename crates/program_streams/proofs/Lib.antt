@@ -1,2 +1,0 @@
--- `FillLaws` is what a read that gave something comes to.
-pub mod FillLaws
