@@ -30,6 +30,7 @@
 // A call that refuses prints `refused N P`, for all but C and L with the hash of the whole output after it, or of both. n has four bytes, and is at
 // most 6,400, for I 16,384; kind and l have eight; a, b, c, m and `room` have two, and are at most 600, but `room` for I 6,400 and for X 16,384;
 // i, j and k have two, and are at most 6,400. A record that is none of these, or is cut, ends the run with the line `bad record`.
+// No contract can say what was read or printed: these state bounds alone.
 #![tactic(auto)]
 
 mod count;

@@ -22,6 +22,7 @@
 // A call that refuses prints `refused N P`, for L with the three hashes after it, for W, R and D with the output's. PLACES is `one P`,
 // `two P Q` or `span F G`. i, `at`, k, kind and l have eight bytes; a, b, c, m and `room` have two, and are at most 600, but `room` of W and
 // R at most 6,400. A record that is none of these, or is cut, ends the run with the line `bad record`.
+// No contract can say what was read or printed: these state bounds alone, of the card's length and of what is written.
 #![tactic(auto)]
 
 mod building;
