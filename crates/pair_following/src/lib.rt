@@ -9,7 +9,7 @@ ghost use Rattle.std.specs.Prelude.{length, set, is_ok};
 ghost use Rattle.pair_theory.specs.Arranged.{HasPlace, Goes};
 ghost use Rattle.pair_theory.specs.Chosen.{Closed, Possible};
 ghost use Rattle.pair_following.specs.Following.{nth, count_in, place_in, prev_in, word_in, last_in, pairs_of, pairs_in, HoldsPairs, Links};
-ghost use Rattle.pair_following.specs.Following.{progress_in, Trail, Ready, Decides, CanStand};
+ghost use Rattle.pair_following.specs.Following.{progress_of, progress_in, Trail, Ready, Decides, CanStand};
 ghost use Rattle.pair_following.specs.Common.{one_in, many_in, key_in, by, Joined, Common};
 ghost use Rattle.pair_following.specs.Following.{Free, AllFree, FreeFrom, Grown, Follows, TakenBack, Attempt};
 
@@ -48,14 +48,34 @@ pub struct Placed<'a> {
     pub n: usize,
 }
 
+// Whether entry e can still come to stand at t, by the places alone, which a caller may have by `&`.
+pub fn possible(put: &[usize], e: usize, t: usize) -> bool
+    requires { e < length put.now }
+    ensures { Decides (CanStand (length put.now) put.now e t) result }
+{
+    let p = put[e];
+    p >= put.len() || p == t
+}
+
+// Takes the place from the entries of the trail from `from` up to n; the trail is only read. `Placed::undo` does not call it: two fields behind one
+// reference are not lent at once yet.
+pub fn undo(put: &mut [usize], trail: &[usize], from: usize, n: usize)
+    requires { (n ≤ length trail.now) × ((i : ℕ) → i < n → nth trail.now i < length put.old) }
+    ensures { TakenBack (progress_of put.old trail.now n) from put.new }
+{
+    let none = put.len();
+    for i in from..n {
+        put[trail[i]] = none;
+    }
+}
+
 impl Placed<'_> {
     // Whether entry e can still come to stand at t.
     pub fn possible(&self, e: usize, t: usize) -> bool
         requires { e < length self.now.put.now }
         ensures { Decides (CanStand (length self.now.put.now) self.now.put.now e t) result }
     {
-        let p = self.put[e];
-        p >= self.put.len() || p == t
+        possible(self.put, e, t)
     }
 
     // Puts entry f at r, and on the trail.

@@ -54,6 +54,10 @@ module _ (card : List ℕ) (x t b : ℕ) where
       ∙ get_or-set_same card (3 * x + 1) b 0 h
 
 module _ {card₀ card : List ℕ} {x : ℕ} (r : Linking card₀ card x) (l : x < 2 * count_in card₀) where
+  -- the slot is one of the list
+  pub slot_in : x < 2 * count_in card
+  slot_in = rw r.size l
+
   pub prev_room : 3 * x + 1 < length card
   prev_room = omega (arith, r.size)
 
@@ -64,7 +68,7 @@ module _ {card₀ card : List ℕ} {x : ℕ} (r : Linking card₀ card x) (l : x
     pub place_in_lem : t < count_in card
     place_in_lem = omega (arith, here, r.size)
 
-    pub last_room : 6 * t + 5 < length card
+    last_room : 6 * t + 5 < length card
     last_room = omega (arith, place_in_lem)
 
     pub last_room_after : (b : ℕ) → 6 * t + 5 < length (set card (3 * x + 1) b)

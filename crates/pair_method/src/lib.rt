@@ -62,8 +62,9 @@ fn link(card: &mut [usize])
     ensures { Linked card.old card.new }
 {
     for x in 0..card.len() / 6 * 2 {
-        let t = card[3 * x];
-        let before = card[6 * t + 5];
+        let pairs = PairCard { card, mask: 0 };
+        let t = pairs.place_of(x);
+        let before = pairs.last_slot(t);
         card[3 * x + 1] = before;
         card[6 * t + 5] = x + 1;
     }

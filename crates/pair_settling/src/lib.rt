@@ -4,7 +4,7 @@
 
 ghost use Rattle.std.specs.Prelude.{◌<◌, is_ok};
 ghost use Rattle.pair_theory.specs.Chosen.{Closed};
-ghost use Rattle.pair_following.specs.Following.{nth, count_in, pairs_in, progress_in, Ready};
+ghost use Rattle.pair_following.specs.Following.{nth, count_in, pairs_in, progress_in, Trail, Ready};
 ghost use Rattle.pair_settling.specs.Settling.{GivesPlace, GivesPlaces};
 
 use pair_following::{Clashed, PairCard, Placed};
@@ -38,7 +38,8 @@ fn settle(pairs: &PairCard, placed: &mut Placed, e: usize) -> Result<(), Clashed
 pub fn settle_all(pairs: &PairCard, placed: &mut Placed) -> Result<(), Clashed>
     requires ready { Ready pairs.now.card.now pairs.now.mask (progress_in placed.old) }
     requires closed { Closed (pairs_in pairs.now) (nth placed.old.put.now) }
-    ensures { GivesPlaces (pairs_in pairs.now) placed.old.put.now placed.new.put.now (is_ok result) }
+    ensures gives { GivesPlaces (pairs_in pairs.now) placed.old.put.now placed.new.put.now (is_ok result) }
+    ensures shape { Trail (count_in pairs.now.card.now) (progress_in placed.new) }
 {
     for e in 0..placed.put.len() {
         settle(pairs, placed, e)?;

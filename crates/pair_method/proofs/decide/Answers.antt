@@ -5,4 +5,4 @@ use Rattle.pair_method.proofs.Built.{builds_found}
 use Rattle.pair_method.proofs.decide.Goals as goal
 
 pub returns : goal.returns
-returns c = builds_found (inside_of c.requires.ready.holds) c.in_ok-choices.ensures refl c.in_ok-settle_all.ensures refl
+returns c = builds_found (inside_of c.requires.ready.holds) c.in_ok-choices.ensures refl c.in_ok-settle_all.ensures.gives refl

@@ -8,4 +8,8 @@ loop-e-preserved c =
     settling_more c.loop-e.invariant c.in_ok-settle.ensures refl
 
 pub returns : goal.returns
-returns c = settled_all c.loop-e.invariant (rw c.requires.ready.shape.puts at c.loop-e-test.false)
+returns c =
+    record {
+      gives = settled_all c.loop-e.invariant (rw c.requires.ready.shape.puts at c.loop-e-test.false);
+      shape = c.loop-e.invariant.shape;
+    }
