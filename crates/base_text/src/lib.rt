@@ -98,11 +98,19 @@ pub fn put_two(out: &mut [u8], at: usize, x: usize, y: usize) -> usize
     put_last(out, next, y)
 }
 
+// The one line of a refusal with this number and this place, of whichever table.
+pub fn put_refusal(out: &mut [u8], number: usize, place: usize) -> usize
+    requires { refusal_room ≤ length out.old }
+    ensures { Put (refusal_line number place) 0 out.old result out.new }
+{
+    let number_at = put_text(out, 0, b"refused");
+    put_two(out, number_at, number, place)
+}
+
 // The one line of a refusal.
 pub fn put_refused(out: &mut [u8], r: Refusal) -> usize
     requires { refusal_room ≤ length out.old }
     ensures { Put (refusal_line (number_of r) (place_of r)) 0 out.old result out.new }
 {
-    let number_at = put_text(out, 0, b"refused");
-    put_two(out, number_at, r.number(), r.place())
+    put_refusal(out, r.number(), r.place())
 }

@@ -9,11 +9,11 @@ fn main(rt: HostRuntime) {
     let usage = b"usage: build < CARD\n";
     let mut bytes = [0u8; BYTES];
     let read = program_streams::card::read(&rt, &mut bytes, 0, usage, b"build: standard input");
-    let Some(card) = read else {
+    let Some(n) = read else {
         return;
     };
     let mut out = [0u8; LINES];
-    let printed = program_lines::report(card, &mut out);
+    let printed = program_lines::report(&bytes[..n], &mut out);
     program_streams::write(
         &rt,
         &rt.stdout(),

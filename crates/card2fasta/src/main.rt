@@ -16,7 +16,7 @@ fn main(rt: HostRuntime) {
         usage,
         b"card2fasta: standard input",
     );
-    let Some(card) = read else {
+    let Some(n) = read else {
         return;
     };
     // Of a name that is longer than one may be there are no bytes, and no record has an empty name.
@@ -24,7 +24,12 @@ fn main(rt: HostRuntime) {
     let k = rt.arg(1, &mut name).unwrap_or(0);
     let mut out = [0u8; program_converting::to_fasta::RECORD];
     let mut err = [0u8; program_lines::verdict::LINE];
-    let written = program_converting::to_fasta::convert(card, &name[..k], &mut out, &mut err);
+    let written = program_converting::to_fasta::convert(
+        &bytes[..n],
+        &name[..k],
+        &mut out,
+        &mut err,
+    );
     program_streams::write(
         &rt,
         &rt.stdout(),

@@ -8,12 +8,12 @@ fn main(rt: HostRuntime) {
     let usage = b"usage: card2list < CARD > LIST\n";
     let mut bytes = [0u8; BYTES];
     let read = program_streams::card::read(&rt, &mut bytes, 0, usage, b"card2list: standard input");
-    let Some(card) = read else {
+    let Some(n) = read else {
         return;
     };
     let mut out = [0u8; text_export::LIST];
     let mut err = [0u8; program_converting::LINE];
-    let written = program_converting::to_list::convert(card, &mut out, &mut err);
+    let written = program_converting::to_list::convert(&bytes[..n], &mut out, &mut err);
     program_streams::write(
         &rt,
         &rt.stdout(),

@@ -15,11 +15,11 @@ fn main(rt: HostRuntime) {
         usage,
         b"count_builds: standard input",
     );
-    let Some(card) = read else {
+    let Some(n) = read else {
         return;
     };
     let mut out = [0u8; LINE];
-    let printed = program_lines::count::report(card, &mut out);
+    let printed = program_lines::count::report(&bytes[..n], &mut out);
     program_streams::write(
         &rt,
         &rt.stdout(),

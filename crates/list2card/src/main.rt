@@ -8,12 +8,12 @@ fn main(rt: HostRuntime) {
     let usage = b"usage: list2card < LIST > CARD\n";
     let mut bytes = [0u8; BYTES];
     let read = program_streams::list::read(&rt, &mut bytes, usage, b"list2card: standard input");
-    let Some(list) = read else {
+    let Some(n) = read else {
         return;
     };
     let mut out = [0u8; card_layout::LONGEST];
     let mut err = [0u8; program_converting::LINE];
-    let written = program_converting::to_card::convert(list, &mut out, &mut err);
+    let written = program_converting::to_card::convert(&bytes[..n], &mut out, &mut err);
     program_streams::write(
         &rt,
         &rt.stdout(),

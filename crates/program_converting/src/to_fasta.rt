@@ -31,7 +31,7 @@ pub fn convert(
             }
             other => Lengths {
                 output: 0,
-                errors: program_lines::verdict::put(err, 0, other, &letters),
+                errors: program_lines::verdict::put(err, 0, Ok(other), &letters),
             },
         },
         Err(r) => crate::put_answer(Err(r), err),

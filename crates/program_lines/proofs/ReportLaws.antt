@@ -22,7 +22,6 @@ use Rattle.build_narrow.proofs.TestLaws.{tests_hold}
 use Rattle.base_text.specs.Text.{refusal_line, Printed}
 use Rattle.base_text.specs.Putting.{Put}
 use Rattle.base_text.proofs.PrintedLaws.{put_printed}
-use Rattle.base_text.proofs.PuttingLaws.{put_as}
 use Rattle.program_lines.specs.Lines.{program_budget, letters_room, card_line, lines_of, ReportsBy, Reports}
 use Rattle.program_lines.specs.SettleLines.{SettleReports}
 use Rattle.program_lines.specs.ByAnswer.{verdict_by, lines_by, Tellable}

@@ -66,7 +66,7 @@ fn put_answer(
         Err(r) => base_text::put_refused(out, r),
         Ok(a) => {
             let at = put_card(out, card);
-            verdict::put(out, at, a, letters)
+            verdict::put(out, at, Ok(a), letters)
         }
     }
 }

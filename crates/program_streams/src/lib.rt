@@ -54,23 +54,23 @@ fn fill(rt: &HostRuntime, bytes: &mut [u8]) -> io::Result<usize>
     Ok(n)
 }
 
-// Reads standard input into the buffer, where the program was called with so many arguments; the answer is the part of it that was read. Where the
-// program was called in another way, says on standard error how it is used; where a read fails, of what, and why: then there is no answer.
-fn take<'a>(
+// Reads standard input to the start of the buffer, where the program was called with so many arguments; the answer is how many bytes were read. Where
+// the program was called in another way, says on standard error how it is used; where a read fails, of what, and why: then there is no answer.
+fn take(
     rt: &HostRuntime,
-    bytes: &'a mut [u8],
+    bytes: &mut [u8],
     arguments: usize,
     usage: &[u8],
     what: &[u8],
-) -> Option<&'a [u8]>
-    ensures { IfSome result (λ input. length input.now ≤ length bytes.old) }
+) -> Option<usize>
+    ensures { IfSome result (λ n. n ≤ length bytes.new) }
 {
     if !called_with(rt, arguments) {
         say(rt, usage);
         return None;
     }
     match fill(rt, bytes) {
-        Ok(n) => Some(&bytes[..n]),
+        Ok(n) => Some(n),
         Err(why) => {
             say_failed(rt, what, &why);
             None

@@ -9,11 +9,11 @@ fn main(rt: HostRuntime) {
     let usage = b"usage: settle < CARD\n";
     let mut bytes = [0u8; BYTES];
     let read = program_streams::card::read(&rt, &mut bytes, 0, usage, b"settle: standard input");
-    let Some(card) = read else {
+    let Some(n) = read else {
         return;
     };
     let mut out = [0u8; LINES];
-    let printed = program_lines::settle::report(card, &mut out);
+    let printed = program_lines::settle::report(&bytes[..n], &mut out);
     program_streams::write(
         &rt,
         &rt.stdout(),

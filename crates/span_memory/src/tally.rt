@@ -1,5 +1,5 @@
 // How far a walk has come.
-ghost use Rattle.std.specs.Prelude.{◌≡◌, ◌≤◌, ◌<◌, IfSome};
+ghost use Rattle.std.specs.Prelude.{◌≡◌, ◌+◌, ◌≤◌, ◌<◌, IfSome, MatchOption};
 ghost use Rattle.span_memory.specs.Tally.{most_budget, tally_of, PlacedOne, PlacedMore};
 
 // The placements made, and the builds that are complete.
@@ -29,6 +29,7 @@ impl Tally {
         requires { self.placed ≤ budget }
         ensures placed_more { PlacedMore size budget self (tally_of budget result) }
         ensures same_builds { IfSome result (λ t. t.builds ≡ self.builds) }
+        ensures told { MatchOption result (budget < self.placed + size) (λ t. self.placed + size ≤ budget) }
     {
         let rest = budget - self.placed;
         if size > u64::from(rest) {

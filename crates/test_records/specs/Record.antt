@@ -1,4 +1,4 @@
--- How many bytes the fields of a record have at the most, how many slots a record can lend and what those hold, the lengths that fields say, and the
+-- How many bytes the fields of a record have at the most, how much a record can lend and what that holds, the lengths that fields say, and the
 -- number in a field of eight bytes. Assumes nothing.
 use Rattle.std.specs.Prelude.{ℕ, ◌+◌, ◌*◌, ◌^◌, ◌&&◌, List, Option, Some, None, cond, leb}
 use Rattle.card_block.specs.Bytes.{two_at, four_at}
@@ -8,6 +8,13 @@ field_bytes = 24
 
 abbrev pub slots : ℕ
 slots = 600
+
+-- the bytes that are lent for a card and for an output, and for a list that is a text
+abbrev pub room : ℕ
+room = 6400
+
+abbrev pub text_room : ℕ
+text_room = 16384
 
 -- what a word, a place and a byte of what is lent are before the call
 abbrev pub old_word : ℕ

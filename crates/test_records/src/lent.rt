@@ -1,6 +1,6 @@
 // What a call is lent, as it is before the call. A list that is read from the input begins as these do too.
 ghost use Rattle.std.specs.Prelude.{◌≡◌, length, replicate};
-ghost use Rattle.test_records.specs.Record.{slots, old_word, old_place, old_byte};
+ghost use Rattle.test_records.specs.Record.{slots, room, text_room, old_word, old_place, old_byte};
 
 // The most slots of a list, the most bytes that are lent for a card, and for a list that is a text, and the most bytes of an output for letters.
 pub const SLOTS: usize = 600;
@@ -29,7 +29,8 @@ pub fn places() -> [u16; SLOTS]
 
 // Bytes: an output, or the room for a card or for a list that is a text.
 pub fn bytes<const N: usize>() -> [u8; N]
-    ensures { result ≡ replicate N old_byte }
+    ensures rooms { (ROOM ≡ room) × (TEXT_ROOM ≡ text_room) }
+    ensures value { result ≡ replicate N old_byte }
 {
     [165; N]
 }

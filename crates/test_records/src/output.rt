@@ -36,9 +36,14 @@ pub fn hash(to: &mut impl Write, bytes: &[u8]) {
     number(to, hashes::of(bytes))
 }
 
+// A refusal with this number and this place, of whichever table.
+pub fn refusal(to: &mut impl Write, number: usize, place: usize) {
+    two(to, b"refused", number, place)
+}
+
 // A refusal: its number and its place.
 pub fn refused(to: &mut impl Write, r: Refusal) {
-    two(to, b"refused", r.number(), r.place())
+    refusal(to, r.number(), r.place())
 }
 
 // What an operation answers that writes, a length after a name or the refusal, and what the output holds afterwards.

@@ -1,5 +1,5 @@
 -- The goals of `test_records::hashes::of` that the check leaves open; Invariants.antt says how it is met. Assumes nothing.
-use Rattle.std.proofs.Common.{◌∙◌, sym, ap, rules, arith}
+use Rattle.std.proofs.Common.{◌∙◌, sym, ap, arith}
 use Rattle.std.proofs.lemmas.List.{get_or-map, length-map}
 use Rattle.test_records.specs.Hash.{mixed}
 use Rattle.test_records.proofs.HashLaws.{so_far_none, so_far_more, so_far_all}
