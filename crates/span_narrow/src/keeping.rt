@@ -90,8 +90,8 @@ impl Layout<'_> {
             × (cells_over * length self.now.tables.words.now ≤ length table.old) }
         ensures { Half (plan_in self.now) table.new (length self.now.tables.words.now) 0 }
     {
-        marks.fill(0);
         table.fill(0);
+        marks.fill(0);
         table[0] = 1;
         for i in 0..self.tables.words.len() - 1 {
             self.keep_place(marks, table, i);

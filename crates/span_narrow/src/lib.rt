@@ -91,8 +91,6 @@ pub fn settle(l: usize, lists: &EntryLists, found: &mut [u32]) -> MethodAnswer
     if crowded(&starts, m) {
         return MethodAnswer::None(0);
     }
-    let mut marks = [0; MOST];
-    let mut table = [0; TABLE];
     let card = Layout {
         l,
         tables: Tables {
@@ -102,5 +100,8 @@ pub fn settle(l: usize, lists: &EntryLists, found: &mut [u32]) -> MethodAnswer
             slots: &slots,
         },
     };
+    // The table last, and in `keep` first: between the two clearings of it nothing else is written, so that the compiler makes them one.
+    let mut marks = [0; MOST];
+    let mut table = [0; TABLE];
     card.settle(&mut marks[..m], &mut table, &mut found[..m])
 }

@@ -1,17 +1,40 @@
 -- Laws of the letters read from a place of a text. Assumes nothing.
 use mathlib.Core.Path.{◌≡◌, refl, sym, ap, ◌∙◌}
+use mathlib.Core.Bool.{true, false}
 use mathlib.Core.List.{List, [], ◌∷◌}
 use Prim.Native.Nat.{ℕ, ◌+◌, ◌*◌, ◌%◌, ◌≤◌, ◌<◌}
 use native.Mathlib.Omega.{arith}
 use lib.ListN.{length, get_or, drop}
-use Rattle.base_letters.specs.Letters.{code, no_letter, code_of}
+use Rattle.base_letters.specs.Letters.{Reading, code, no_letter, code_of, is_code, is_letter}
 use Rattle.base_letters.proofs.Inverse.{letter_code}
 use Rattle.text_probes.specs.Reading.{read_codes}
-use Rattle.text_probes.specs.Says.{kept, Spelled}
+use Rattle.text_probes.specs.Says.{code_in, kept, Spelled}
 use Rattle.text_probes.proofs.Cursor.{here, past}
 
 pub code_below : (b : ℕ) {c : ℕ} → code c ≡ code_of b → c < 4
 code_below b {c} e = (letter_code b c (sym e)).0
+
+-- what is no letter has no code, and a letter has the code that is kept of it
+pub none_of : (b : ℕ) → is_letter b ≡ false → no_letter ≡ code_of b
+none_of b e = go (code_of b) e
+  where
+    go : (r : Reading) → is_code r ≡ false → no_letter ≡ r
+    go no_letter e = refl
+    go (code c) e = let z : ◌≡◌ {A = ℕ} 0 1 = cc in absurd (omega arith)
+
+pub one_of_letter : (b : ℕ) → is_letter b ≡ true → code (code_in (code_of b)) ≡ code_of b
+one_of_letter b e = go (code_of b) e
+  where
+    go : (r : Reading) → is_code r ≡ true → code (code_in r) ≡ r
+    go no_letter e = let z : ◌≡◌ {A = ℕ} 0 1 = cc in absurd (omega arith)
+    go (code c) e = refl
+
+pub in_below : (b : ℕ) → code_in (code_of b) < 4
+in_below b = go (code_of b) refl
+  where
+    go : (r : Reading) → code_of b ≡ r → code_in r < 4
+    go no_letter e = omega arith
+    go (code c) e = code_below b (sym e)
 
 -- the letters up to `end` were read, with so much kept of them
 pub record Spelling (text : List ℕ) (at value end : ℕ) : Type 0 where

@@ -3,6 +3,7 @@
 --   says_read text r, says_lined text r    == what was read of the text: a number or what is listed; a line
 --   end_of r, line_end r                  == where the text goes on
 --   Said, told_of o               == what is told of a line that is read
+--   code_in r                     == the code of a letter that was read, and 0 where there is none
 --   kept v cs                    == the value that is kept of a word: of its last 16 letters, where v is that of the letters before cs
 --   outline_after s n y           == the outline s with a line more, of n letters and what it lists
 --   Spelled text at w            == w is told of the letters of the text from `at` on
@@ -10,7 +11,7 @@
 use Rattle.std.specs.Prelude.{◌≡◌, ℕ, ◌+◌, ◌*◌, ◌^◌, ◌%◌, ◌≤◌, Bool, true, false, cond, List, [], ◌∷◌, length, drop, eqb}
 use Rattle.std.specs.Prelude as std
 use Rattle.std.proofs.Math.Option.{Option, none, some}
-use Rattle.base_letters.specs.Letters.{codes}
+use Rattle.base_letters.specs.Letters.{codes, Reading, code, no_letter}
 use Rattle.text_probes.specs.declared.line.Marked.{Marked}
 use Rattle.text_probes.specs.declared.line.Word.{Word}
 use Rattle.text_probes.specs.declared.line.Probe.{Probe}
@@ -33,6 +34,10 @@ end_of (std.Some (x, end)) = end
 end_of std.None = 0
 
 -- ---- letters
+
+abbrev pub code_in : Reading → ℕ
+code_in no_letter = 0
+code_in (code c) = c
 
 abbrev pub kept : ℕ → List ℕ → ℕ
 kept v [] = v

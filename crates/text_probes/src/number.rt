@@ -15,7 +15,8 @@ fn read_digits(text: &[u8], at: usize, first: u16) -> Option<(u16, usize)>
         if !byte.is_ascii_digit() {
             return Some((v, i));
         }
-        v = v.checked_mul(10)?.checked_add(u16::from(byte - b'0'))?;
+        // One test a digit: with `checked_mul` and `checked_add`, which are two, importing a list took a fifth longer.
+        v = u16::try_from(10 * u32::from(v) + u32::from(byte - b'0')).ok()?;
     }
     Some((v, text.len()))
 }
