@@ -55,8 +55,8 @@ enum {
 
 /* Bytes of stack that a call takes at most: measured on x86-64 over the samples, the largest cards of both kinds and the longest record of a build,
  * and not proved. Each number is what was measured, rounded up to a multiple of 8,192, for importing of 1,024, and for any other call of 512.
- * Building takes about 58,400 bytes on a pair card, and on a span card about 25,000 and 208 more for each entry that it places, but no less than
- * 30,000. Settling takes as much for a small card as for a full one.
+ * Building takes about 58,500 bytes on a pair card, and on a span card about 25,100 and 192 more for each entry that it places, but no less than
+ * 30,100. Settling takes as much for a small card as for a full one.
  *
  * A thread takes more stack than the call that it makes: about 4,400 bytes more, measured on x86-64 with glibc 2.36 and not proved, for what the
  * thread library keeps there and for the function that the thread begins in. Give a thread 8,192 bytes more than the number here, and the bytes of
