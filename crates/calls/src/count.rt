@@ -33,7 +33,7 @@ pub fn of_card(from: &mut impl Read, to: &mut impl Write, fields: &[u8; FIELDS])
     if ROOM < n {
         return false;
     }
-    let mut card = lent::bytes::<ROOM>();
+    let mut card = lent::bytes();
     tell_card(from, to, &mut card[..n])
 }
 

@@ -27,8 +27,8 @@ fn read_back(to: &mut impl Write, out: &[u8], n: usize) -> bool {
     if out.len() < n {
         return false;
     }
-    let mut name = lent::bytes::<ROOM>();
-    let mut letters = lent::bytes::<ROOM>();
+    let mut name = lent::bytes();
+    let mut letters = lent::bytes();
     let p = reading::read(&out[..n], &mut name, &mut letters);
     output::text(to, b" ");
     tell_parts(to, p, &name, &letters);
@@ -105,8 +105,8 @@ pub fn of_fields(
     if ROOM < i || ROOM < j || ROOM < k {
         return false;
     }
-    let mut a = lent::bytes::<ROOM>();
-    let mut b = lent::bytes::<ROOM>();
-    let mut c = lent::bytes::<ROOM>();
+    let mut a = lent::bytes();
+    let mut b = lent::bytes();
+    let mut c = lent::bytes();
     told(from, to, tag, &mut a[..i], &mut b[..j], &mut c[..k])
 }

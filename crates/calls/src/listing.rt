@@ -30,8 +30,8 @@ pub fn of_list(from: &mut impl Read, to: &mut impl Write, fields: &[u8; FIELDS])
     let Some((n, room)) = input::lengths(fields, TEXT_ROOM, ROOM) else {
         return false;
     };
-    let mut list = lent::bytes::<TEXT_ROOM>();
-    let mut out = lent::bytes::<ROOM>();
+    let mut list = lent::texts();
+    let mut out = lent::bytes();
     import_told(from, to, &mut list[..n], &mut out[..room])
 }
 
@@ -51,8 +51,8 @@ pub fn of_card(from: &mut impl Read, to: &mut impl Write, fields: &[u8; FIELDS])
     let Some((n, room)) = input::lengths(fields, ROOM, TEXT_ROOM) else {
         return false;
     };
-    let mut card = lent::bytes::<ROOM>();
-    let mut out = lent::bytes::<TEXT_ROOM>();
+    let mut card = lent::bytes();
+    let mut out = lent::texts();
     export_told(from, to, &mut card[..n], &mut out[..room])
 }
 
@@ -68,8 +68,8 @@ fn import_again(to: &mut impl Write, list: &[u8], n: usize, out: &mut [u8]) -> b
 
 // Exports a card and imports its list, and says whether that can be.
 fn again(to: &mut impl Write, card: &[u8]) -> bool {
-    let mut list = lent::bytes::<TEXT_ROOM>();
-    let mut out = lent::bytes::<ROOM>();
+    let mut list = lent::texts();
+    let mut out = lent::bytes();
     match text_export::export(card, &mut list) {
         Ok(n) => import_again(to, &list, n, &mut out),
         Err(r) => {
@@ -93,7 +93,7 @@ pub fn again_of_card(from: &mut impl Read, to: &mut impl Write, fields: &[u8; FI
     if ROOM < n {
         return false;
     }
-    let mut card = lent::bytes::<ROOM>();
+    let mut card = lent::bytes();
     again_told(from, to, &mut card[..n])
 }
 
@@ -102,8 +102,8 @@ fn list_and_again(to: &mut impl Write, card: &[u8], n: usize) -> bool {
     if card.len() < n {
         return false;
     }
-    let mut list = lent::bytes::<TEXT_ROOM>();
-    let mut out = lent::bytes::<ROOM>();
+    let mut list = lent::texts();
+    let mut out = lent::bytes();
     let e = text_export::export(&card[..n], &mut list);
     output::written(to, b"list", e, &list);
     output::text(to, b" ");
@@ -122,7 +122,7 @@ fn lists_told(from: &mut impl Read, to: &mut impl Write, fields: &[u8; FIELDS], 
     };
     let kind = input::eight_at(fields, 0);
     let l = input::eight_at(fields, 8);
-    let mut card = lent::bytes::<ROOM>();
+    let mut card = lent::bytes();
     match card_writer::write(
         kind,
         l,

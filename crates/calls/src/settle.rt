@@ -38,8 +38,8 @@ pub fn of_card(from: &mut impl Read, to: &mut impl Write, fields: &[u8; FIELDS])
     let Some((n, room)) = input::lengths(fields, ROOM, LETTERS) else {
         return false;
     };
-    let mut card = lent::bytes::<ROOM>();
-    let mut out = lent::bytes::<ROOM>();
+    let mut card = lent::bytes();
+    let mut out = lent::bytes();
     tell_card(from, to, &mut card[..n], &mut out[..room])
 }
 
@@ -81,6 +81,6 @@ pub fn of_lists(from: &mut impl Read, to: &mut impl Write, fields: &[u8; FIELDS]
     if LETTERS < room {
         return false;
     }
-    let mut out = lent::bytes::<ROOM>();
+    let mut out = lent::bytes();
     tell_lists(from, to, fields, a, b, c, &mut out[..room])
 }

@@ -62,6 +62,7 @@ fn link(card: &mut [usize])
     ensures { Linked card.old card.new }
 {
     for x in 0..card.len() / 6 * 2 {
+        // No mask is looked at.
         let pairs = PairCard { card, mask: 0 };
         let t = pairs.place_of(x);
         let before = pairs.last_slot(t);

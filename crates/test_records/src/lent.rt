@@ -27,10 +27,25 @@ pub fn places() -> [u16; SLOTS]
     [4660; SLOTS]
 }
 
-// Bytes: an output, or the room for a card or for a list that is a text.
-pub fn bytes<const N: usize>() -> [u8; N]
-    ensures rooms { (ROOM ≡ room) × (TEXT_ROOM ≡ text_room) }
-    ensures value { result ≡ replicate N old_byte }
+// So many bytes.
+fn filled<const N: usize>() -> [u8; N]
+    ensures { result ≡ replicate N old_byte }
 {
     [165; N]
+}
+
+// Bytes: an output, or the room for a card. How many they are is no caller's choice.
+pub fn bytes() -> [u8; ROOM]
+    ensures len { room ≡ length result }
+    ensures value { result ≡ replicate room old_byte }
+{
+    filled()
+}
+
+// Bytes for a list that is a text: an output, or the room for one.
+pub fn texts() -> [u8; TEXT_ROOM]
+    ensures len { text_room ≡ length result }
+    ensures value { result ≡ replicate text_room old_byte }
+{
+    filled()
 }

@@ -3,7 +3,7 @@ use base_answers::Refusal;
 use build_card::BuildAnswer;
 use std::io::Write;
 use test_records::input::FIELDS;
-use test_records::lent::{LETTERS, ROOM};
+use test_records::lent::LETTERS;
 use test_records::{lent, output};
 
 // What build answers: the verdict with its numbers, or the refusal.
@@ -30,7 +30,7 @@ pub fn of_card(to: &mut impl Write, card: &[u8], fields: &[u8; FIELDS]) -> bool 
     if LETTERS < room {
         return false;
     }
-    let mut out = lent::bytes::<ROOM>();
+    let mut out = lent::bytes();
     build(to, card, budget, &mut out[..room]);
     true
 }

@@ -62,7 +62,7 @@ pub fn of_lists(from: &mut impl Read, to: &mut impl Write, fields: &[u8; FIELDS]
     if ROOM < room {
         return false;
     }
-    let mut out = lent::bytes::<ROOM>();
+    let mut out = lent::bytes();
     write_told(from, to, fields, a, b, c, &mut out[..room])
 }
 
@@ -92,7 +92,7 @@ pub fn again(to: &mut impl Write, card: &[u8], fields: &[u8; FIELDS]) -> bool {
     let mut words = lent::words();
     let mut ones = lent::places();
     let mut twos = lent::places();
-    let mut out = lent::bytes::<ROOM>();
+    let mut out = lent::bytes();
     match card_reader::listing::admit_into(card, &mut words, &mut ones, &mut twos) {
         Ok(f) => write_first(to, f, &words, &ones, &twos, &mut out[..room]),
         Err(r) => output::written(to, b"written", Err(r), &out[..room]),
