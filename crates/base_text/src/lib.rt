@@ -3,11 +3,8 @@
 #![tactic(auto)]
 
 ghost use Rattle.std.specs.Prelude.{[], ◌∷◌, ◌++◌, ◌≡◌, ◌+◌, ◌≤◌, ◌<◌, length};
-ghost use Rattle.base_answers.specs.Answer.{number_of, place_of};
 ghost use Rattle.base_text.specs.Text.{ascii, digit, decimal, others, refusal_line};
 ghost use Rattle.base_text.specs.Putting.{most_digits, refusal_room, Put};
-
-use base_answers::Refusal;
 
 // A text, byte by byte: `copy_from_slice` was tried, and calls `memmove`, where the header says that the library needs memcpy and memset at most.
 pub fn put_text(out: &mut [u8], at: usize, text: &[u8]) -> usize
@@ -98,19 +95,11 @@ pub fn put_two(out: &mut [u8], at: usize, x: usize, y: usize) -> usize
     put_last(out, next, y)
 }
 
-// The one line of a refusal with this number and this place, of whichever table.
-pub fn put_refusal(out: &mut [u8], number: usize, place: usize) -> usize
+// The one line of a refusal with this number and this place. They are numbers, as the line has them, and no `Refusal`: any two may be told.
+pub fn put_refused(out: &mut [u8], number: usize, place: usize) -> usize
     requires { refusal_room ≤ length out.old }
     ensures { Put (refusal_line number place) 0 out.old result out.new }
 {
     let number_at = put_text(out, 0, b"refused");
     put_two(out, number_at, number, place)
-}
-
-// The one line of a refusal.
-pub fn put_refused(out: &mut [u8], r: Refusal) -> usize
-    requires { refusal_room ≤ length out.old }
-    ensures { Put (refusal_line (number_of r) (place_of r)) 0 out.old result out.new }
-{
-    put_refusal(out, r.number(), r.place())
 }

@@ -13,7 +13,7 @@ fn tell(to: &mut impl Write, n: Result<Option<usize>, Refusal>) {
     match n {
         Ok(Some(k)) => output::one(to, b"power", k),
         Ok(None) => output::text(to, b"none"),
-        Err(r) => output::refused(to, r),
+        Err(r) => output::refused(to, r.number(), r.place()),
     }
     output::text(to, b"\n")
 }

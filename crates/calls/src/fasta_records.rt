@@ -15,7 +15,7 @@ fn tell_parts(
 ) {
     match p {
         Ok((n, k)) => output::two(to, b"parts", n, k),
-        Err(r) => output::refused(to, r),
+        Err(r) => output::refused(to, r.number(), r.place()),
     }
     output::hash(to, name);
     output::hash(to, letters);
@@ -53,7 +53,7 @@ fn write_told(
             read_back(to, out, n)
         }
         Err(r) => {
-            output::refused(to, r);
+            output::refused(to, r.number(), r.place());
             output::hash(to, out);
             output::text(to, b"\n");
             true

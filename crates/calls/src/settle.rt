@@ -16,7 +16,7 @@ fn tell(to: &mut impl Write, a: Result<BuildAnswer, Refusal>, out: &[u8]) {
         Ok(BuildAnswer::Several(n, k)) => output::two(to, b"several", n, k as usize),
         Ok(BuildAnswer::None(k)) => output::one(to, b"none", k as usize),
         Ok(BuildAnswer::Unsettled(k)) => output::one(to, b"unsettled", k as usize),
-        Err(r) => output::refused(to, r),
+        Err(r) => output::refused(to, r.number(), r.place()),
     }
     output::hash(to, out);
     output::text(to, b"\n")

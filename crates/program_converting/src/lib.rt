@@ -32,7 +32,7 @@ fn put_answer(answer: Result<usize, Refusal>, err: &mut [u8]) -> Lengths
         Ok(output) => Lengths { output, errors: 0 },
         Err(r) => Lengths {
             output: 0,
-            errors: base_text::put_refused(err, r),
+            errors: base_text::put_refused(err, r.number(), r.place()),
         },
     }
 }

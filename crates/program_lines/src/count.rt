@@ -27,6 +27,6 @@ pub fn report(card: &[u8], out: &mut [u8; LINE]) -> usize
     match build_count::count_card(card) {
         Ok(Some(k)) => put_power(out, k),
         Ok(None) => base_text::put_text(out, 0, b"builds 0\n"),
-        Err(r) => base_text::put_refused(out, r),
+        Err(r) => base_text::put_refused(out, r.number(), r.place()),
     }
 }

@@ -63,7 +63,7 @@ fn put_answer(
     ensures { Put (lines_by (told_by card.now) (says answer) letters.now) 0 out.old result out.new }
 {
     match answer {
-        Err(r) => base_text::put_refused(out, r),
+        Err(r) => base_text::put_refused(out, r.number(), r.place()),
         Ok(a) => {
             let at = put_card(out, card);
             verdict::put(out, at, Ok(a), letters)

@@ -36,21 +36,16 @@ pub fn hash(to: &mut impl Write, bytes: &[u8]) {
     number(to, hashes::of(bytes))
 }
 
-// A refusal with this number and this place, of whichever table.
-pub fn refusal(to: &mut impl Write, number: usize, place: usize) {
-    two(to, b"refused", number, place)
-}
-
 // A refusal: its number and its place.
-pub fn refused(to: &mut impl Write, r: Refusal) {
-    refusal(to, r.number(), r.place())
+pub fn refused(to: &mut impl Write, number: usize, place: usize) {
+    two(to, b"refused", number, place)
 }
 
 // What an operation answers that writes, a length after a name or the refusal, and what the output holds afterwards.
 pub fn written(to: &mut impl Write, name: &[u8], r: Result<usize, Refusal>, out: &[u8]) {
     match r {
         Ok(n) => one(to, name, n),
-        Err(r) => refused(to, r),
+        Err(r) => refused(to, r.number(), r.place()),
     }
     hash(to, out)
 }

@@ -10,7 +10,7 @@ use test_records::{hashes, input, lent, output};
 fn admitted(to: &mut impl Write, a: Result<Format, Refusal>, name: &[u8]) {
     match a {
         Ok(f) => output::three(to, name, f.kind, f.l, f.m),
-        Err(r) => output::refused(to, r),
+        Err(r) => output::refused(to, r.number(), r.place()),
     }
 }
 
@@ -34,7 +34,7 @@ pub fn admit(to: &mut impl Write, card: &[u8]) {
 pub fn fetch_entry(to: &mut impl Write, card: &[u8], i: usize) {
     match card_reader::fetch_entry(card, i) {
         Ok(e) => entry(to, b"entry", e),
-        Err(r) => output::refused(to, r),
+        Err(r) => output::refused(to, r.number(), r.place()),
     }
 }
 
@@ -47,7 +47,7 @@ pub fn step(to: &mut impl Write, card: &[u8], at: usize) {
             output::number(to, next.at)
         }
         Ok(None) => output::text(to, b"end"),
-        Err(r) => output::refused(to, r),
+        Err(r) => output::refused(to, r.number(), r.place()),
     }
 }
 
@@ -61,7 +61,7 @@ pub fn fetch(to: &mut impl Write, card: &[u8], k: usize) {
 pub fn companion(to: &mut impl Write, card: &[u8], k: usize) {
     match card_block::companion(card, k) {
         Ok(()) => output::text(to, b"holds"),
-        Err(r) => output::refused(to, r),
+        Err(r) => output::refused(to, r.number(), r.place()),
     }
 }
 

@@ -4,4 +4,5 @@ use Rattle.base_text.proofs.PrintedLaws.{put_printed}
 use Rattle.program_converting.proofs.put_answer.Goals as goal
 
 pub returns-in-Err : goal.returns-in-Err
-returns-in-Err c = rw c.in-Err.is (record { output = refl; errors = put_printed refl c.put_refused.ensures })
+returns-in-Err c =
+    rw c.in-Err.is (record { output = refl; errors = put_printed refl (rw (c.number.ensures, c.place.ensures) at c.put_refused.ensures) })

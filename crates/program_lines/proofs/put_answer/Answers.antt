@@ -13,7 +13,7 @@ pub put-requires-clause-letters_there : goal.put-requires-clause-letters_there
 put-requires-clause-letters_there c = c.requires.tellable.letters_there _ (ap says c.in-Ok.is)
 
 pub returns-in-Err : goal.returns-in-Err
-returns-in-Err c = refused_lines _ _ c.in-Err.is c.put_refused.ensures
+returns-in-Err c = refused_lines _ _ c.in-Err.is (rw (c.number.ensures, c.place.ensures) at c.put_refused.ensures)
 
 pub returns-in-Ok : goal.returns-in-Ok
 returns-in-Ok c = given_lines _ _ c.in-Ok.is (put_then c.put_card-at.ensures.put c.put.ensures)

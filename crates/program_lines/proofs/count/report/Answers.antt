@@ -9,4 +9,4 @@ pub returns-in-Ok-None : goal.returns-in-Ok-None
 returns-in-Ok-None c = count_reported (rw c.in-Ok-None.field-0-is at c.in-Ok-None.ensures) c.put_text.ensures
 
 pub returns-in-Err : goal.returns-in-Err
-returns-in-Err c = count_reported c.in-Err.ensures c.put_refused.ensures
+returns-in-Err c = count_reported c.in-Err.ensures (rw (c.number.ensures, c.place.ensures) at c.put_refused.ensures)
