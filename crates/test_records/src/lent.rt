@@ -27,7 +27,7 @@ pub fn places() -> [u16; SLOTS]
     [4660; SLOTS]
 }
 
-// So many bytes.
+// As many bytes as the type says, each as it is before a call.
 fn filled<const N: usize>() -> [u8; N]
     ensures { result ≡ replicate N old_byte }
 {
