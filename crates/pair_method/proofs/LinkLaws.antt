@@ -68,7 +68,7 @@ module _ {card₀ card : List ℕ} {x : ℕ} (r : Linking card₀ card x) (l : x
     pub place_in_lem : t < count_in card
     place_in_lem = omega (arith, here, r.size)
 
-    last_room : 6 * t + 5 < length card
+    pub last_room : 6 * t + 5 < length card
     last_room = omega (arith, place_in_lem)
 
     pub last_room_after : (b : ℕ) → 6 * t + 5 < length (set card (3 * x + 1) b)
